@@ -1,1 +1,2 @@
 pub mod KeysetListLemmas
+pub mod HistoryLemmas

@@ -1,8 +1,11 @@
+ghost use Rattle.std.specs.Prelude.{◌≡◌, IfOk};
+
 use crate::application::Tar;
 use crate::counters::Counter;
 use crate::jobs::JobId;
 use crate::keysets::{KeysetFacts, KeysetId};
 use crate::octet_string::Octets;
+use crate::wants::Memory;
 
 /// One thing that happened on a lane. `by` is the number of the sender that made the entry; 0 is the session itself.
 #[derive(Debug, Drop)]
@@ -41,6 +44,68 @@ pub enum Entry {
         by: u32,
         keyset: KeysetId,
     },
+}
+
+impl Entry {
+    /// The same entry once more.
+    pub fn copy(&self) -> Result<Entry, Memory>
+        ensures { IfOk result (λ made. made ≡ self.now) }
+    {
+        match self {
+            Entry::Open { by, keyset, facts } => Ok(Entry::Open {
+                by: *by,
+                keyset: *keyset,
+                facts: *facts,
+            }),
+            Entry::Reserve {
+                by,
+                keyset,
+                counter,
+                job,
+                tar,
+                body,
+            } => {
+                let body = body.copy()?;
+                Ok(Entry::Reserve {
+                    by: *by,
+                    keyset: *keyset,
+                    counter: *counter,
+                    job: *job,
+                    tar: *tar,
+                    body,
+                })
+            }
+            Entry::Done {
+                by,
+                keyset,
+                counter,
+                answer,
+            } => {
+                let answer = answer.copy()?;
+                Ok(Entry::Done {
+                    by: *by,
+                    keyset: *keyset,
+                    counter: *counter,
+                    answer,
+                })
+            }
+            Entry::Refused {
+                by,
+                keyset,
+                counter,
+                status,
+            } => Ok(Entry::Refused {
+                by: *by,
+                keyset: *keyset,
+                counter: *counter,
+                status: *status,
+            }),
+            Entry::Close { by, keyset } => Ok(Entry::Close {
+                by: *by,
+                keyset: *keyset,
+            }),
+        }
+    }
 }
 
 /// Why an entry may not follow a history. Where several hold, the first in this order is named.

@@ -1,7 +1,8 @@
-ghost use Rattle.std.specs.Prelude.{◌≡◌, ◌∷◌, ◌++◌, [], reverse, None, OnOk, OnErr};
+ghost use Rattle.std.specs.Prelude.{◌≡◌, ◌∷◌, ◌++◌, [], reverse, take, None, Some, OnOk, OnErr, MatchResult};
 ghost use Rattle.ota_core.specs.History.{broken, IsLegal};
 
-use crate::entries::Entry;
+use crate::entries::{Entry, Illegal};
+use crate::rules::may_follow;
 use crate::wants::Memory;
 use std::alloc::Global;
 use std::marker::Model;
@@ -42,7 +43,14 @@ impl History {
         self.entries.as_slice()
     }
 
-    /// Adds an entry that may follow.
+    /// Whether the entry may follow, or the first rule that it breaks.
+    pub fn may_add(&self, entry: &Entry) -> Result<(), Illegal>
+        ensures { MatchResult result (λ _. broken (reverse self.now) entry.now ≡ None) (λ rule. broken (reverse self.now) entry.now ≡ Some rule) }
+    {
+        may_follow(self.entries.as_slice(), entry)
+    }
+
+    /// Adds an entry that may follow, by `may_add`.
     pub fn add(&mut self, entry: Entry) -> Result<(), Memory>
         requires { broken (reverse self.old) entry ≡ None }
         ensures ok { OnOk result (self.new ≡ self.old ++ entry ∷ []) }
@@ -50,5 +58,12 @@ impl History {
     {
         self.entries.push(entry)?;
         Ok(())
+    }
+
+    /// Keeps the first `len` entries, or all where there are fewer.
+    pub fn truncate(&mut self, len: usize)
+        ensures { self.new ≡ take len self.old }
+    {
+        self.entries.truncate(len);
     }
 }

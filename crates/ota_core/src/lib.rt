@@ -14,7 +14,9 @@ mod key_bytes;
 mod keysets;
 mod octet_string;
 mod outcomes;
+mod past;
 mod references;
+mod rules;
 mod wants;
 
 pub use application::Tar;

@@ -1,0 +1,5 @@
+use Rattle.ota_core.proofs.HistoryLemmas.{IsLegal-take}
+use Rattle.ota_core.proofs.histories.History.truncate.Goals as goal
+
+pub invariant_of-self : goal.invariant_of-self
+invariant_of-self c = rw c.truncate.ensures.items (IsLegal-take c.args.len c.self.inside.entries.items c.self.invariant)
