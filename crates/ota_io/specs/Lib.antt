@@ -1,0 +1,4 @@
+pub mod Calls
+pub mod InMemory
+pub mod Octets
+pub mod ReadErr
