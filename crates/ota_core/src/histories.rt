@@ -35,6 +35,14 @@ impl History {
         }
     }
 
+    /// The history of entries that are legal one after the other. It wants no memory.
+    pub fn from_legal(entries: Vec<Entry>) -> History
+        requires { IsLegal entries.items }
+        ensures { result ≡ entries.items }
+    {
+        History { entries }
+    }
+
     /// The entries, oldest first.
     pub fn entries(&self) -> &[Entry]
         ensures entries { result.now ≡ self.now }

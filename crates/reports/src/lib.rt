@@ -3,3 +3,5 @@
 
 mod lookup;
 mod report;
+
+pub use report::report_text;
