@@ -1,0 +1,9 @@
+pub mod NumberLemmas
+pub mod TextLemmas
+pub mod HexadecimalLemmas
+pub mod DecimalLemmas
+pub mod RowLemmas
+pub mod DistinctLemmas
+pub mod PlanLaws
+pub mod CellLaws
+pub mod JobsLaws

@@ -1,0 +1,9 @@
+pub mod Words
+pub mod Text
+pub mod Number
+pub mod Hexadecimal
+pub mod Plan
+pub mod Jobs
+pub mod NarrowPlan
+pub mod NarrowJobs
+pub mod RowCells

@@ -1,0 +1,22 @@
+//! Reads the plan of a campaign and the list of its jobs.
+//!
+//! A text has one reading or none, and is refused exactly where it has none. For now both texts have one narrow form:
+//! a plan of one card with one keyset in eight fixed lines, and a list of at most 100 jobs without quotes.
+#![tactic(auto)]
+
+mod columns;
+mod hexadecimals;
+mod job_lists;
+mod narrow_jobs;
+mod narrow_plan;
+mod numbers;
+mod plans;
+mod tables;
+#[cfg(test)]
+mod tests;
+mod texts;
+
+pub use columns::Column;
+pub use job_lists::{JobsErr, read_jobs};
+pub use plans::{CardList, Plan, PlanErr, read_plan};
+pub use tables::{Field, Table};
