@@ -240,3 +240,29 @@ inverse_cipher-cipher w s n b h =
 pub aes_decrypts-aes_encrypts : (key s : List ℕ) → IsBlock s → aes_decrypts key (aes_encrypts key s) ≡ s
 unfolding aes_decrypts aes_encrypts
 aes_decrypts-aes_encrypts key s b = inverse_cipher-cipher (key_words key) s (round_count key) b (omega arith)
+
+-- ---- for those who chain blocks
+
+-- a sum of blocks is a block
+pub IsBlock-xor_lists : (s t : List ℕ) → IsBlock s → IsBlock t → IsBlock (xor_lists s t)
+IsBlock-xor_lists s t b c =
+    let len : length s ≡ 16 = b.0 in
+    let len' : length t ≡ 16 = c.0 in
+    let same : length s ≡ length t = omega arith in
+    (
+      length-xor_lists s t (omega arith) ∙ len,
+      λ i. rw (slice_index-xor_lists s t i same) (xor_lt 8 (slice_index s i) (slice_index t i) (b.1 i) (c.1 i)),
+    )
+
+-- AES of a block is a block
+pub IsBlock-aes_encrypts : (key s : List ℕ) → IsBlock s → IsBlock (aes_encrypts key s)
+unfolding aes_encrypts cipher
+IsBlock-aes_encrypts key s b =
+    let w : List ℕ = key_words key in
+    let n : ℕ = round_count key in
+    let before : List ℕ = rounds w s (n - 1) in
+    added-block w (shift_rows (sub_bytes before)) n (boxed-block before (rounds-block w s (n - 1) b))
+
+-- a sum with the same block twice
+pub xor_lists-twice : (s k : List ℕ) → length s ≤ length k → xor_lists (xor_lists s k) k ≡ s
+xor_lists-twice s k h = unadded s k h
