@@ -248,8 +248,7 @@ pub IsBlock-xor_lists : (s t : List ℕ) → IsBlock s → IsBlock t → IsBlock
 IsBlock-xor_lists s t b c =
     let len : length s ≡ 16 = b.0 in
     let len' : length t ≡ 16 = c.0 in
-    let same : length s ≡ length t = omega arith in
-    (
+    let same : length s ≡ length t = omega arith in (
       length-xor_lists s t (omega arith) ∙ len,
       λ i. rw (slice_index-xor_lists s t i same) (xor_lt 8 (slice_index s i) (slice_index t i) (b.1 i) (c.1 i)),
     )
