@@ -1,0 +1,2 @@
+pub mod KeyPair
+pub mod Modes

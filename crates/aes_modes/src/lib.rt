@@ -1,0 +1,11 @@
+//! CBC (NIST SP 800-38A) and CMAC (NIST SP 800-38B) with AES, equal to the standards' own words:
+//! `specs/Modes.antt`.
+#![tactic(auto)]
+
+mod cbc;
+mod key_pair;
+mod mac;
+
+pub use cbc::{cbc_decrypt, cbc_encrypt};
+pub use key_pair::Keys;
+pub use mac::{cmac, cmac8};

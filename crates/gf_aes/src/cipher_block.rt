@@ -1,0 +1,84 @@
+//! A block between two uses of the cipher.
+
+ghost use Rattle.std.specs.Prelude.{◌≡◌, length, replicate};
+ghost use Rattle.gf_aes.specs.Cipher.{xor_lists};
+
+use crate::kernel::word;
+use std::marker::Model;
+
+/// A block of 16 octets, kept as the four words that the cipher works on. Contracts see the octets.
+#[derive(Drop)]
+pub struct CipherBlock {
+    pub(crate) columns: [u32; 4],
+}
+
+impl Model for CipherBlock {
+    ghost use Rattle.std.specs.Prelude.{ℕ, List};
+    ghost use Rattle.gf_aes.specs.Cipher.{block_of};
+
+    ghost Value = { List ℕ };
+
+    ghost view = { λ b. block_of b.columns };
+}
+
+impl CipherBlock {
+    /// The block of 16 zeros.
+    pub fn zero() -> CipherBlock
+        ensures { result ≡ replicate 16 0 }
+    {
+        CipherBlock { columns: [0; 4] }
+    }
+
+    /// The block of 16 octets.
+    #[inline]
+    pub fn from_octets(octets: &[u8]) -> CipherBlock
+        requires { length octets.now ≡ 16 }
+        ensures { result ≡ octets.now }
+    {
+        CipherBlock {
+            columns: [
+                word(octets[0], octets[1], octets[2], octets[3]),
+                word(octets[4], octets[5], octets[6], octets[7]),
+                word(octets[8], octets[9], octets[10], octets[11]),
+                word(octets[12], octets[13], octets[14], octets[15]),
+            ],
+        }
+    }
+
+    /// Adds another block, each octet to the octet at its place (FIPS 197, 4.1).
+    #[inline]
+    pub fn add(&mut self, other: &CipherBlock)
+        ensures { self.new ≡ xor_lists self.old other.now }
+    {
+        self.columns = [
+            self.columns[0] ^ other.columns[0],
+            self.columns[1] ^ other.columns[1],
+            self.columns[2] ^ other.columns[2],
+            self.columns[3] ^ other.columns[3],
+        ];
+    }
+
+    /// Writes the block over 16 octets.
+    #[inline]
+    pub fn store(&self, octets: &mut [u8])
+        requires { length octets.old ≡ 16 }
+        ensures { octets.new ≡ self.now }
+    {
+        octets.copy_from_slice(&self.to_octets());
+    }
+
+    /// The 16 octets.
+    #[inline]
+    pub fn to_octets(&self) -> [u8; 16]
+        ensures { result ≡ self.now }
+    {
+        let [a, b, c, d] = self.columns;
+        let [a0, a1, a2, a3] = a.to_be_bytes();
+        let [b0, b1, b2, b3] = b.to_be_bytes();
+        let [c0, c1, c2, c3] = c.to_be_bytes();
+        let [d0, d1, d2, d3] = d.to_be_bytes();
+        [
+            a0, a1, a2, a3, b0, b1, b2, b3, c0, c1, c2, c3, d0, d1, d2, d3,
+        ]
+    }
+}

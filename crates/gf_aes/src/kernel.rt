@@ -1,0 +1,116 @@
+//! One word of a round: a column of the state, from four columns and a word of the round key.
+
+ghost use Rattle.std.specs.Prelude.{◌≡◌, map};
+ghost use Rattle.gf_aes.specs.Field.{inverse_sub_byte, sub_byte};
+ghost use Rattle.gf_aes.specs.Cipher.{diagonal, inverse_mix_column, mix_column, octet, octets, sub_word, word_of, xor_lists};
+
+use crate::tables::{
+    INVERSE_MIX_0, INVERSE_MIX_1, INVERSE_MIX_2, INVERSE_MIX_3, INVERSE_S_BOX, MIX_0, MIX_1, MIX_2,
+    MIX_3, S_BOX,
+};
+
+#[inline(always)]
+fn octet_0(word: u32) -> usize
+    ensures { result ≡ octet word 0 }
+{
+    (word >> 24) as usize
+}
+
+#[inline(always)]
+fn octet_1(word: u32) -> usize
+    ensures { result ≡ octet word 1 }
+{
+    (word >> 16 & 0xff) as usize
+}
+
+#[inline(always)]
+fn octet_2(word: u32) -> usize
+    ensures { result ≡ octet word 2 }
+{
+    (word >> 8 & 0xff) as usize
+}
+
+#[inline(always)]
+fn octet_3(word: u32) -> usize
+    ensures { result ≡ octet word 3 }
+{
+    (word & 0xff) as usize
+}
+
+/// The word of four octets, the first highest.
+#[inline(always)]
+pub(crate) fn word(a: u8, b: u8, c: u8, d: u8) -> u32
+    ensures { result ≡ word_of a b c d }
+{
+    u32::from_be_bytes([a, b, c, d])
+}
+
+/// SubWord (FIPS 197, 5.2).
+#[inline(always)]
+pub(crate) fn sub_word(w: u32) -> u32
+    ensures { result ≡ sub_word w }
+{
+    word(
+        S_BOX[octet_0(w)],
+        S_BOX[octet_1(w)],
+        S_BOX[octet_2(w)],
+        S_BOX[octet_3(w)],
+    )
+}
+
+/// A word of a round with all its steps: the octets at the diagonal of `a`, `b`, `c` and `d`.
+#[inline(always)]
+pub(crate) fn round_word(a: u32, b: u32, c: u32, d: u32, key: u32) -> u32
+    ensures { octets result ≡ xor_lists (mix_column (map sub_byte (diagonal a b c d))) (octets key) }
+{
+    MIX_0[octet_0(a)] ^ MIX_1[octet_1(b)] ^ MIX_2[octet_2(c)] ^ MIX_3[octet_3(d)] ^ key
+}
+
+/// A word of the last round, which has no MixColumns.
+#[inline(always)]
+pub(crate) fn last_word(a: u32, b: u32, c: u32, d: u32, key: u32) -> u32
+    ensures { octets result ≡ xor_lists (map sub_byte (diagonal a b c d)) (octets key) }
+{
+    word(
+        S_BOX[octet_0(a)],
+        S_BOX[octet_1(b)],
+        S_BOX[octet_2(c)],
+        S_BOX[octet_3(d)],
+    ) ^ key
+}
+
+/// A word of a round of the inverse cipher, where `key` has been through InvMixColumns.
+#[inline(always)]
+pub(crate) fn inverse_round_word(a: u32, b: u32, c: u32, d: u32, key: u32) -> u32
+    ensures { octets result
+        ≡ xor_lists (inverse_mix_column (map inverse_sub_byte (diagonal a b c d))) (octets key) }
+{
+    INVERSE_MIX_0[octet_0(a)]
+        ^ INVERSE_MIX_1[octet_1(b)]
+        ^ INVERSE_MIX_2[octet_2(c)]
+        ^ INVERSE_MIX_3[octet_3(d)]
+        ^ key
+}
+
+/// A word of the last round of the inverse cipher, which has no InvMixColumns.
+#[inline(always)]
+pub(crate) fn inverse_last_word(a: u32, b: u32, c: u32, d: u32, key: u32) -> u32
+    ensures { octets result ≡ xor_lists (map inverse_sub_byte (diagonal a b c d)) (octets key) }
+{
+    word(
+        INVERSE_S_BOX[octet_0(a)],
+        INVERSE_S_BOX[octet_1(b)],
+        INVERSE_S_BOX[octet_2(c)],
+        INVERSE_S_BOX[octet_3(d)],
+    ) ^ key
+}
+
+/// InvMixColumns of one word. The S-box undoes the inverse S-box within the tables.
+pub(crate) fn inverse_mix_word(w: u32) -> u32
+    ensures { octets result ≡ inverse_mix_column (octets w) }
+{
+    INVERSE_MIX_0[S_BOX[octet_0(w)] as usize]
+        ^ INVERSE_MIX_1[S_BOX[octet_1(w)] as usize]
+        ^ INVERSE_MIX_2[S_BOX[octet_2(w)] as usize]
+        ^ INVERSE_MIX_3[S_BOX[octet_3(w)] as usize]
+}
