@@ -70,7 +70,8 @@ impl History {
 
     /// Keeps the first `len` entries, or all where there are fewer.
     pub fn truncate(&mut self, len: usize)
-        ensures { self.new ≡ take len self.old }
+        ensures entries { self.new ≡ take len self.old }
+        ensures legal { IsLegal self.new }
     {
         self.entries.truncate(len);
     }

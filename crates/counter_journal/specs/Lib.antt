@@ -1,0 +1,4 @@
+pub mod EntryOctets
+pub mod Journal
+pub mod Causes
+pub mod Laws

@@ -1,0 +1,9 @@
+//! A log that a stop at any moment leaves whole: each batch of it counts from the moment its gate is open.
+//!
+//! A log is a mark octet, a head of nine octets, a gate octet, and then batches, each followed by a gate. A gate of
+//! A5 is open and a batch follows; any other is closed and ends the log.
+#![tactic(auto)]
+
+mod appends;
+
+pub use appends::append;

@@ -1,0 +1,65 @@
+-- What the inputs of a command say.
+use Rattle.std.specs.Prelude.{◌≡◌, ℕ, nat_le, Bool, if◌then◌else◌, Option, Some, None, IfSome, Result, Ok, Err, List, length}
+use Rattle.std.specs.Option.{ok_or}
+use Rattle.ota_io.specs.Calls.{HasRisen, next}
+use Rattle.ota_io.specs.Octets.{text_limit}
+use Rattle.ota_core.specs.declared.jobs.Job.{Job}
+use Rattle.plan_reader.specs.NarrowPlan.{plan_of, IsPlanText}
+use Rattle.plan_reader.specs.NarrowJobs.{jobs_of, IsJobsText}
+use Rattle.plan_reader.specs.declared.plans.Plan.{Plan}
+use Rattle.plan_reader.specs.declared.tables.Table.TheVariants.{Top}
+use Rattle.plan_reader.specs.declared.tables.Field.TheVariants.{Text}
+use Rattle.plan_reader.specs.declared.columns.Column.TheVariants.{Header}
+use Rattle.ota_commands.specs.declared.faults.Which.{Which}
+use Rattle.ota_commands.specs.declared.faults.Which.TheVariants as which
+use Rattle.ota_commands.specs.declared.faults.Fault.{Fault}
+use Rattle.ota_commands.specs.declared.faults.Fault.TheVariants as fault
+
+-- an input as a call was handed it: its octets, where it tells them, and its count of faults before and after the call
+pub record Input : Type 0 where
+  pub octets : Option (List ℕ)
+  pub before : ℕ
+  pub now : ℕ
+
+-- by whether it tells, its octets, and the two counts
+abbrev pub input_of : Bool → List ℕ → ℕ → ℕ → Input
+input_of tells octets before now = record { octets = if tells then Some octets else None; before = before; now = now }
+
+-- the octets of an input whose count of faults didn't rise
+abbrev pub unfailed : Input → Option (List ℕ)
+unfailed input = if nat_le (next input.before) input.now then None else input.octets
+
+-- the text of an input, or that it is too long
+abbrev pub text_reading : Which → List ℕ → Result (List ℕ) Fault
+text_reading of octets = if nat_le (length octets) text_limit then Ok octets else Err (fault.InputTooLong of)
+
+-- the plan that an input says, or the fault
+abbrev pub plan_reading : List ℕ → Result Plan Fault
+plan_reading octets = if nat_le (length octets) text_limit then ok_or (plan_of octets) (fault.PlanRefused Top 0 Text) else Err (fault.InputTooLong which.Plan)
+
+-- the jobs that an input lists, or the fault
+abbrev pub jobs_reading : Plan → List ℕ → Result (List Job) Fault
+jobs_reading plan octets =
+    if nat_le (length octets) text_limit then ok_or (jobs_of plan octets) (fault.JobsRefused 0 Header) else Err (fault.InputTooLong which.Jobs)
+
+-- the value is what the input says
+abbrev pub Says : {T : Type 0} → (List ℕ → Result T Fault) → Input → T → Type 0
+Says reading input value = IfSome input.octets (λ octets. reading octets ≡ Ok value)
+
+-- when a fault comes while an input is read that has this reading: want of memory at any time, a fault of the source
+-- only where its count rose, and a refusal only as the reading says
+abbrev pub ReadFaultComes : {T : Type 0} → Which → (List ℕ → Result T Fault) → Input → Fault → Type 0
+ReadFaultComes of reading input fault.Memory = Unit {0}
+ReadFaultComes of reading input (fault.SourceFault source) = (source ≡ of) × HasRisen input.before input.now
+ReadFaultComes of reading input (fault.InputTooLong source) = (source ≡ of) × IfSome input.octets (λ octets. reading octets ≡ Err (fault.InputTooLong source))
+ReadFaultComes of reading input (fault.PlanRefused table row field) = (which.Plan ≡ of) × IfSome input.octets (λ octets. reading octets ≡ Err (fault.PlanRefused table row field))
+ReadFaultComes of reading input (fault.JobsRefused row column) = (which.Jobs ≡ of) × IfSome input.octets (λ octets. reading octets ≡ Err (fault.JobsRefused row column))
+ReadFaultComes of reading input _ = ⊥
+
+-- the plan was spelled in the narrow form
+abbrev pub IsSpelledPlan : Plan → Type 0
+IsSpelledPlan plan = (text : List ℕ) × IsPlanText plan text
+
+-- the jobs were spelled in the narrow form for the plan
+abbrev pub AreSpelledJobs : Plan → List Job → Type 0
+AreSpelledJobs plan jobs = (text : List ℕ) × IsJobsText plan jobs text
