@@ -1,7 +1,7 @@
 -- How entries are added to a journal, one after the other.
-use Rattle.std.proofs.Common.{◌≡◌, ◌⊎◌, inl, inr, ⊎_elim, ℕ, ◌+◌, ◌*◌, ◌<◌, ◌≤◌, Result, Ok, Err, List, [], ◌∷◌, ◌++◌, length, get_or, take, refl, sym, ◌∙◌, ap, subst, arith}
+use Rattle.std.proofs.Common.{◌≡◌, ◌⊎◌, inl, inr, ⊎_elim, ℕ, ◌+◌, ◌*◌, ◌<◌, ◌≤◌, Ok, Err, List, [], ◌∷◌, ◌++◌, length, get_or, take, sym, ◌∙◌, ap, subst, arith}
 use Rattle.std.proofs.lemmas.List.{take_more, take_all, length-take-le}
-use Rattle.disk_model.specs.Disk.{Meaning, Tells, DiskRun, image_now}
+use Rattle.disk_model.specs.Disk.{Meaning, DiskRun}
 use Rattle.disk_model.specs.Runs.{at_once, weaker, left_now, joined}
 use Rattle.ota_core.specs.declared.entries.Entry.{Entry}
 use Rattle.gate_log.specs.Append.{opened_with, IsBeforeOrAfter, IsSettled}

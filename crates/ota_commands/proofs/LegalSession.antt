@@ -1,11 +1,10 @@
 -- The entries of a session on an empty journal are legal.
-use Rattle.std.proofs.Common.{◌≡◌, ℕ, zero, suc, ◌+◌, ◌≤◌, nat_eq, nat_le, Bool, true, false, not, ◌&&◌, ◌||◌, ◌==◌, IsTrue, Option, Some, None, List, [], ◌∷◌, ◌++◌, reverse, take, length, if◌then◌else◌, eq-eqb, refl, sym, ◌∙◌, ap, subst, arith, append_assoc}
+use Rattle.std.proofs.Common.{◌≡◌, ℕ, ◌+◌, nat_eq, nat_le, Bool, true, false, not, ◌&&◌, Some, None, List, [], ◌∷◌, ◌++◌, reverse, if◌then◌else◌, eq-eqb, refl, sym, ◌∙◌, ap, subst, arith, append_assoc}
 use Rattle.std.specs.List.{list_any}
-use Rattle.std.specs.Option.{option_or}
 use Rattle.ota_core.specs.Keyset.{Keyset, is_same_keyset}
 use Rattle.ota_core.specs.Job.{is_same_job}
-use Rattle.ota_core.specs.Entry.{Reservation, is_open_of, is_close_of, counter_in, reservation_in}
-use Rattle.ota_core.specs.History.{first_some, next_counter, last_reservation, broken, IsLegalPast, IsLegal, LAST_COUNTER}
+use Rattle.ota_core.specs.Entry.{is_open_of, is_close_of, counter_in}
+use Rattle.ota_core.specs.History.{first_some, last_reservation, broken, IsLegalPast, IsLegal, LAST_COUNTER}
 use Rattle.ota_core.specs.declared.jobs.JobId.{JobId}
 use Rattle.ota_core.specs.declared.jobs.Job.{Job}
 use Rattle.ota_core.specs.declared.keysets.KeysetFacts.{KeysetFacts}

@@ -1,5 +1,5 @@
 -- What the narrow forms of plan and jobs say of a session: one keyset, few entries, and short ones.
-use Rattle.std.proofs.Common.{◌≡◌, ℕ, suc, ◌+◌, ◌≤◌, nat_eq, nat_le, Bool, true, false, ◌&&◌, ◌||◌, ◌==◌, if◌then◌else◌, IsTrue, Option, Some, None, IfSome, option_map, List, [], ◌∷◌, ◌++◌, All, length, refl, sym, ◌∙◌, ap, subst, arith, length-append}
+use Rattle.std.proofs.Common.{◌≡◌, ℕ, suc, ◌+◌, ◌≤◌, nat_eq, nat_le, Bool, true, false, ◌&&◌, ◌||◌, if◌then◌else◌, Option, Some, None, IfSome, option_map, List, [], ◌∷◌, All, length, refl, sym, subst, arith, length-append}
 use Rattle.std.specs.List.{AllByRecursion}
 use Rattle.std.specs.Option.{option_and_then}
 use Rattle.std.proofs.lemmas.Bool.{eqb-true}
@@ -12,7 +12,6 @@ use Rattle.ota_core.specs.declared.keysets.Mode.TheVariants.{Higher}
 use Rattle.ota_core.specs.declared.entries.Entry.{Entry}
 use Rattle.ota_core.specs.declared.entries.Entry.TheVariants.{Open, Reserve}
 use Rattle.plan_reader.specs.Plan.{has_keyset}
-use Rattle.plan_reader.specs.Jobs.{IsJobOf}
 use Rattle.plan_reader.specs.NarrowPlan.{IsPlanText, plan_with, card_with}
 use Rattle.plan_reader.specs.NarrowJobs.{IsRow, AreRows, IsJobsText}
 use Rattle.plan_reader.specs.declared.plans.Plan.{Plan}

@@ -1,16 +1,15 @@
 -- What follows from a fault that came while the inputs were read.
-use Rattle.std.proofs.Common.{◌≡◌, ℕ, Bool, true, IsTrue, Option, None, Result, List, refl, arith}
-use Rattle.disk_model.specs.Disk.{Meaning, Tells, image_now}
+use Rattle.std.proofs.Common.{◌≡◌, ℕ, Bool, true, None, Result, List, refl}
+use Rattle.disk_model.specs.Disk.{Meaning, image_now}
 use Rattle.disk_model.specs.Runs.{at_once}
-use Rattle.ota_core.specs.declared.jobs.Job.{Job}
 use Rattle.plan_reader.specs.declared.plans.Plan.{Plan}
 use Rattle.ota_commands.specs.Inputs.{Input, ReadFaultComes, Says, plan_reading, jobs_reading}
-use Rattle.ota_commands.specs.Answers.{Seen, JobsFail, Comes}
+use Rattle.ota_commands.specs.Answers.{Seen, Comes}
 use Rattle.ota_commands.specs.Exit.{StoppedBefore}
 use Rattle.ota_commands.specs.declared.faults.Which.{Which}
 use Rattle.ota_commands.specs.declared.faults.Which.TheVariants as which
 use Rattle.ota_commands.specs.declared.faults.Fault.{Fault}
-use Rattle.ota_commands.specs.declared.faults.Fault.TheVariants.{Usage, PlanRefused, JobsRefused, InputTooLong, JobDiffers, KeysetDiffers, KeysetClosed, KeysetUnknown, SourceFault, SinkFault, SiteFault, NotAJournal, WrongLane, Damaged, Full, Unformatted, Memory}
+use Rattle.ota_commands.specs.declared.faults.Fault.TheVariants.{PlanRefused, JobsRefused, InputTooLong, SourceFault, Memory}
 
 module _ {D B C K : Type 0} (told : Meaning D B C) (sink_tells : K → Bool) (written : K → List ℕ) (disk : D) (sink : K) where
   -- nothing was done beside reading

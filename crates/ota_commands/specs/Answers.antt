@@ -1,5 +1,5 @@
 -- When a command answers what. Each fault has its cause; and where nothing amiss is told, there is none.
-use Rattle.std.specs.Prelude.{◌≡◌, ◌≢◌, ◌⊎◌, ℕ, nat_le, Bool, true, false, IsTrue, if◌then◌else◌, Option, Some, None, IfSome, option_map, Result, Ok, Err, List, []}
+use Rattle.std.specs.Prelude.{◌≡◌, ◌≢◌, ◌⊎◌, ℕ, nat_le, Bool, true, false, if◌then◌else◌, Option, Some, None, IfSome, option_map, Result, Ok, Err, List, []}
 use Rattle.std.specs.Str.{bytes_eq}
 use Rattle.ota_io.specs.Calls.{HasRisen, next}
 use Rattle.disk_model.specs.Counts.{HasRisen as DiskRisen}
@@ -10,7 +10,7 @@ use Rattle.counter_journal.specs.Journal.{journal_octets}
 use Rattle.ota_commands.specs.Inputs.{Input, input_of, unfailed, plan_reading, jobs_reading, Says, ReadFaultComes}
 use Rattle.ota_commands.specs.declared.faults.Which.TheVariants as which
 use Rattle.ota_commands.specs.declared.faults.Fault.{Fault}
-use Rattle.ota_commands.specs.declared.faults.Fault.TheVariants.{Usage, PlanRefused, JobsRefused, InputTooLong, JobDiffers, KeysetDiffers, KeysetClosed, KeysetUnknown, SourceFault, SinkFault, SiteFault, NotAJournal, WrongLane, Damaged, Full, Unformatted, Memory}
+use Rattle.ota_commands.specs.declared.faults.Fault.TheVariants.{Usage, PlanRefused, JobsRefused, InputTooLong, SourceFault, SinkFault, SiteFault, NotAJournal, Memory}
 
 -- What a call of `reserve` was handed: whether the words are those of the command and there is one site, the two
 -- inputs, the disk as an input with what a read of it gives at entry, and the counts of faults of the sink.

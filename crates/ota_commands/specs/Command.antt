@@ -3,7 +3,7 @@ use Rattle.std.specs.Prelude.{◌≡◌, ◌⊎◌, ℕ, Bool, true, false, ◌=
 use Rattle.disk_model.specs.Counts.{Counts}
 use Rattle.disk_model.specs.Disk.{Meaning}
 use Rattle.ota_commands.specs.Inputs.{Input}
-use Rattle.ota_commands.specs.Answers.{Seen, seen_of, disk_input, Comes, decided, IsDecided}
+use Rattle.ota_commands.specs.Answers.{seen_of, disk_input, Comes, decided, IsDecided}
 use Rattle.ota_commands.specs.Exit.{StoppedBefore, ReservedAsSaid}
 use Rattle.ota_commands.specs.declared.faults.Fault.{Fault}
 use Rattle.ota_commands.specs.declared.faults.Fault.TheVariants.{Usage, Memory}

@@ -1,5 +1,5 @@
 -- What a call of `reserve` leaves behind: on the disk, in the output, and as its answer.
-use Rattle.std.specs.Prelude.{◌≡◌, ◌⊎◌, ℕ, ◌+◌, ◌*◌, ◌≤◌, Bool, IsTrue, Option, Some, None, Result, Ok, Err, OnOk, List, [], ◌∷◌, ◌++◌, take, length}
+use Rattle.std.specs.Prelude.{◌≡◌, ◌⊎◌, ℕ, ◌+◌, ◌*◌, Bool, IsTrue, Option, Some, None, Result, Ok, Err, OnOk, List, [], ◌∷◌, ◌++◌, take, length}
 use Rattle.disk_model.specs.Disk.{Meaning, Tells, DiskRun, image_now}
 use Rattle.disk_model.specs.Counts.{Counts}
 use Rattle.ota_io.specs.Calls.{HasRisen}

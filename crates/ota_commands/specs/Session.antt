@@ -1,5 +1,5 @@
 -- What `reserve` adds to an empty journal.
-use Rattle.std.specs.Prelude.{◌≡◌, ℕ, ◌+◌, ◌≤◌, nat_eq, nat_le, Bool, if◌then◌else◌, Option, Some, None, option_map, find, List, [], ◌∷◌, take, length}
+use Rattle.std.specs.Prelude.{◌≡◌, ℕ, ◌+◌, ◌≤◌, nat_eq, nat_le, if◌then◌else◌, Option, Some, None, option_map, find, List, [], ◌∷◌, take, length}
 use Rattle.std.specs.Option.{option_and_then}
 use Rattle.ota_core.specs.Keyset.{Keyset}
 use Rattle.ota_core.specs.History.{LAST_COUNTER}

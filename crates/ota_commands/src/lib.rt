@@ -13,3 +13,6 @@ mod words;
 pub use faults::{Fault, Which};
 pub use plain::{Ended, plain_command};
 pub use words::is_reserve;
+
+#[cfg(test)]
+mod tests;

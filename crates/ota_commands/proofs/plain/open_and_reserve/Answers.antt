@@ -1,4 +1,4 @@
-use Rattle.std.proofs.Common.{◌≡◌, ◌⊎◌, inl, inr, ℕ, List, length, IsTrue, Option, Result, Err, sym, ◌∙◌, ap, subst}
+use Rattle.std.proofs.Common.{◌⊎◌, inl, inr, ℕ, List, length, IsTrue, Option, Result, sym, ◌∙◌, ap, subst}
 use Rattle.disk_model.specs.Counts.{Counts}
 use Rattle.disk_model.specs.Disk.{image_now}
 use Rattle.disk_model.specs.Runs.{joined, weaker}

@@ -1,4 +1,4 @@
-use Rattle.std.proofs.Common.{◌≡◌, ℕ, length, replicate, None, inr, sym, ◌∙◌, ap}
+use Rattle.std.proofs.Common.{◌≡◌, length, None, inr, sym, ◌∙◌, ap}
 use Rattle.std.proofs.lemmas.List.{length-replicate}
 use Rattle.ota_commands.proofs.Singles.{single, set_single}
 use Rattle.ota_commands.proofs.plain.plain_command.Goals as goal

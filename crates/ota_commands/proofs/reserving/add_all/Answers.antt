@@ -1,5 +1,4 @@
-use Rattle.std.proofs.Common.{◌≡◌, ◌+◌, ◌≤◌, length, get_or, take, sym, ◌∙◌, ap, subst, arith, IsTrue}
-use Rattle.disk_model.specs.Disk.{Tells}
+use Rattle.std.proofs.Common.{sym, ◌∙◌, subst, arith, IsTrue}
 use Rattle.counter_journal.specs.Laws.{length-framed}
 use Rattle.ota_commands.specs.Session.{IsShort}
 use Rattle.ota_commands.proofs.Adding.{goes_on, stopped}

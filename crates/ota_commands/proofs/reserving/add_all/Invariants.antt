@@ -1,4 +1,4 @@
-use Rattle.std.proofs.Common.{◌≡◌, ◌+◌, ◌*◌, ◌≤◌, take, length}
+use Rattle.std.proofs.Common.{◌≡◌, ◌+◌, ◌*◌, ◌≤◌}
 use Rattle.disk_model.specs.Disk.{Tells}
 use Rattle.ota_commands.specs.Added.{HasAddedSoFar}
 use Rattle.ota_commands.proofs.reserving.add_all.Given as goal

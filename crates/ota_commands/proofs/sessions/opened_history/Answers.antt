@@ -1,5 +1,3 @@
-use Rattle.ota_core.specs.declared.entries.Entry.TheVariants.{Open}
-use Rattle.ota_core.specs.History.{IsLegal}
 use Rattle.ota_commands.proofs.LegalSession.{legal_session}
 use Rattle.ota_commands.proofs.sessions.opened_history.Goals as goal
 
