@@ -1,0 +1,12 @@
+pub mod ArmedCalls
+pub mod CallLog
+pub mod Contents
+pub mod ContentsInside
+pub mod Counts
+pub mod Disk
+pub mod EffectLaws
+pub mod Effects
+pub mod Events
+pub mod MemDisk
+pub mod Runs
+pub mod Writing
