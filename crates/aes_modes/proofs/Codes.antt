@@ -41,12 +41,14 @@ pub next_subkey-high : (s : List ℕ) → 128 ≤ slice_index s 0 → slice_set 
 unfolding next_subkey
 next_subkey-high s h = rw (le-ltb (slice_index s 0) 128 h) (simp xor_zero_r)
 
+padded-by : (s t : List ℕ) (n : ℕ) → n ≡ length s → t ≡ 0 ∷ replicate (15 - length s) 0 → slice_set (s ++ t) n 0x80 ≡ padded s
+padded-by s t n at e = rw e (set_at s 0 (replicate (15 - length s) 0) 0x80 n (sym at))
+
+-- what `rest` and the bit behind it leave of a block of zeros
 pub padded-all : (s : List ℕ) (k n : ℕ) → k ≡ length s → n ≡ length s → length s < 16 → slice_set (put_mid 0 k (replicate 16 0) s) n 0x80 ≡ padded s
 padded-all s k n at at' short =
     let count : 16 - k ≡ suc (15 - length s) = omega arith in
-    let left : drop k (replicate 16 0) ≡ 0 ∷ replicate (15 - length s) 0 =
-    drop-replicate k 16 0 ∙ ap (λ m. replicate m 0) count in
-    ap (λ t. slice_set (s ++ t) n 0x80) left ∙ set_at s 0 (replicate (15 - length s) 0) 0x80 n (sym at')
+    padded-by s (drop k (replicate 16 0)) n at' (drop-replicate k 16 0 ∙ ap (λ m. replicate m 0) count)
 
 pub last_block-whole : (key s : List ℕ) → length s ≡ 16 → last_block key s ≡ xor_lists (first_subkey key) s
 unfolding last_block

@@ -5,7 +5,7 @@ use Rattle.std.proofs.lemmas.List.{get_or-map}
 use Rattle.std.proofs.lemmas.List.FromFn.{get_or-map-range_with_len}
 use Rattle.gf_aes.specs.Field.{xtime, times_below, times, octet_values, inverse, affine_bit, affine, sub_byte, affine_inverse, inverse_sub_byte}
 use Rattle.gf_aes.specs.Cipher.{octets, octet, word_of, diagonal, xor_lists, mix_column, inverse_mix_column, matrix_times, sub_word}
-use Rattle.gf_aes.specs.declared.tables.TheConstants.{S_BOX, INVERSE_S_BOX, MIX_0, MIX_1, MIX_2, MIX_3, INVERSE_MIX_0, INVERSE_MIX_1, INVERSE_MIX_2, INVERSE_MIX_3}
+use Rattle.gf_aes.specs.declared.tables.TheConstants.{S_BOX, INVERSE_S_BOX, MIX, INVERSE_MIX}
 use Rattle.gf_aes.proofs.Words.{octets-xor, octets-word_of, octet_below}
 
 -- a table that lists a function's values has each of them at its place
@@ -60,37 +60,37 @@ columns table box f e len len' i h =
     let l' : i < length box = omega arith in
     sym (get_or-map octets table i 0 [] l) ∙ ap (λ t. get_or t i []) e ∙ get_or-map f box i 0 [] l'
 
-MIX_0-at : (i : ℕ) → i < 256 → octets (slice_index MIX_0 i) ≡ multiples 2 1 1 3 (sub_byte i)
+MIX_0-at : (i : ℕ) → i < 256 → octets (slice_index (get_or MIX 0 []) i) ≡ multiples 2 1 1 3 (sub_byte i)
 unfolding xtime times_below times
-MIX_0-at i h = columns MIX_0 S_BOX (multiples 2 1 1 3) refl refl refl i h ∙ ap (multiples 2 1 1 3) (S_BOX-at i h)
+MIX_0-at i h = columns (get_or MIX 0 []) S_BOX (multiples 2 1 1 3) refl refl refl i h ∙ ap (multiples 2 1 1 3) (S_BOX-at i h)
 
-MIX_1-at : (i : ℕ) → i < 256 → octets (slice_index MIX_1 i) ≡ multiples 3 2 1 1 (sub_byte i)
+MIX_1-at : (i : ℕ) → i < 256 → octets (slice_index (get_or MIX 1 []) i) ≡ multiples 3 2 1 1 (sub_byte i)
 unfolding xtime times_below times
-MIX_1-at i h = columns MIX_1 S_BOX (multiples 3 2 1 1) refl refl refl i h ∙ ap (multiples 3 2 1 1) (S_BOX-at i h)
+MIX_1-at i h = columns (get_or MIX 1 []) S_BOX (multiples 3 2 1 1) refl refl refl i h ∙ ap (multiples 3 2 1 1) (S_BOX-at i h)
 
-MIX_2-at : (i : ℕ) → i < 256 → octets (slice_index MIX_2 i) ≡ multiples 1 3 2 1 (sub_byte i)
+MIX_2-at : (i : ℕ) → i < 256 → octets (slice_index (get_or MIX 2 []) i) ≡ multiples 1 3 2 1 (sub_byte i)
 unfolding xtime times_below times
-MIX_2-at i h = columns MIX_2 S_BOX (multiples 1 3 2 1) refl refl refl i h ∙ ap (multiples 1 3 2 1) (S_BOX-at i h)
+MIX_2-at i h = columns (get_or MIX 2 []) S_BOX (multiples 1 3 2 1) refl refl refl i h ∙ ap (multiples 1 3 2 1) (S_BOX-at i h)
 
-MIX_3-at : (i : ℕ) → i < 256 → octets (slice_index MIX_3 i) ≡ multiples 1 1 3 2 (sub_byte i)
+MIX_3-at : (i : ℕ) → i < 256 → octets (slice_index (get_or MIX 3 []) i) ≡ multiples 1 1 3 2 (sub_byte i)
 unfolding xtime times_below times
-MIX_3-at i h = columns MIX_3 S_BOX (multiples 1 1 3 2) refl refl refl i h ∙ ap (multiples 1 1 3 2) (S_BOX-at i h)
+MIX_3-at i h = columns (get_or MIX 3 []) S_BOX (multiples 1 1 3 2) refl refl refl i h ∙ ap (multiples 1 1 3 2) (S_BOX-at i h)
 
-INVERSE_MIX_0-at : (i : ℕ) → i < 256 → octets (slice_index INVERSE_MIX_0 i) ≡ multiples 0x0E 0x09 0x0D 0x0B (inverse_sub_byte i)
+INVERSE_MIX_0-at : (i : ℕ) → i < 256 → octets (slice_index (get_or INVERSE_MIX 0 []) i) ≡ multiples 0x0E 0x09 0x0D 0x0B (inverse_sub_byte i)
 unfolding xtime times_below times
-INVERSE_MIX_0-at i h = columns INVERSE_MIX_0 INVERSE_S_BOX (multiples 0x0E 0x09 0x0D 0x0B) refl refl refl i h ∙ ap (multiples 0x0E 0x09 0x0D 0x0B) (INVERSE_S_BOX-at i h)
+INVERSE_MIX_0-at i h = columns (get_or INVERSE_MIX 0 []) INVERSE_S_BOX (multiples 0x0E 0x09 0x0D 0x0B) refl refl refl i h ∙ ap (multiples 0x0E 0x09 0x0D 0x0B) (INVERSE_S_BOX-at i h)
 
-INVERSE_MIX_1-at : (i : ℕ) → i < 256 → octets (slice_index INVERSE_MIX_1 i) ≡ multiples 0x0B 0x0E 0x09 0x0D (inverse_sub_byte i)
+INVERSE_MIX_1-at : (i : ℕ) → i < 256 → octets (slice_index (get_or INVERSE_MIX 1 []) i) ≡ multiples 0x0B 0x0E 0x09 0x0D (inverse_sub_byte i)
 unfolding xtime times_below times
-INVERSE_MIX_1-at i h = columns INVERSE_MIX_1 INVERSE_S_BOX (multiples 0x0B 0x0E 0x09 0x0D) refl refl refl i h ∙ ap (multiples 0x0B 0x0E 0x09 0x0D) (INVERSE_S_BOX-at i h)
+INVERSE_MIX_1-at i h = columns (get_or INVERSE_MIX 1 []) INVERSE_S_BOX (multiples 0x0B 0x0E 0x09 0x0D) refl refl refl i h ∙ ap (multiples 0x0B 0x0E 0x09 0x0D) (INVERSE_S_BOX-at i h)
 
-INVERSE_MIX_2-at : (i : ℕ) → i < 256 → octets (slice_index INVERSE_MIX_2 i) ≡ multiples 0x0D 0x0B 0x0E 0x09 (inverse_sub_byte i)
+INVERSE_MIX_2-at : (i : ℕ) → i < 256 → octets (slice_index (get_or INVERSE_MIX 2 []) i) ≡ multiples 0x0D 0x0B 0x0E 0x09 (inverse_sub_byte i)
 unfolding xtime times_below times
-INVERSE_MIX_2-at i h = columns INVERSE_MIX_2 INVERSE_S_BOX (multiples 0x0D 0x0B 0x0E 0x09) refl refl refl i h ∙ ap (multiples 0x0D 0x0B 0x0E 0x09) (INVERSE_S_BOX-at i h)
+INVERSE_MIX_2-at i h = columns (get_or INVERSE_MIX 2 []) INVERSE_S_BOX (multiples 0x0D 0x0B 0x0E 0x09) refl refl refl i h ∙ ap (multiples 0x0D 0x0B 0x0E 0x09) (INVERSE_S_BOX-at i h)
 
-INVERSE_MIX_3-at : (i : ℕ) → i < 256 → octets (slice_index INVERSE_MIX_3 i) ≡ multiples 0x09 0x0D 0x0B 0x0E (inverse_sub_byte i)
+INVERSE_MIX_3-at : (i : ℕ) → i < 256 → octets (slice_index (get_or INVERSE_MIX 3 []) i) ≡ multiples 0x09 0x0D 0x0B 0x0E (inverse_sub_byte i)
 unfolding xtime times_below times
-INVERSE_MIX_3-at i h = columns INVERSE_MIX_3 INVERSE_S_BOX (multiples 0x09 0x0D 0x0B 0x0E) refl refl refl i h ∙ ap (multiples 0x09 0x0D 0x0B 0x0E) (INVERSE_S_BOX-at i h)
+INVERSE_MIX_3-at i h = columns (get_or INVERSE_MIX 3 []) INVERSE_S_BOX (multiples 0x09 0x0D 0x0B 0x0E) refl refl refl i h ∙ ap (multiples 0x09 0x0D 0x0B 0x0E) (INVERSE_S_BOX-at i h)
 
 -- a matrix times a column, as the sum of four table words
 summed : (a b c d x0 x1 x2 x3 t0 t1 t2 t3 : ℕ) → octets t0 ≡ multiples a d c b x0 → octets t1 ≡ multiples b a d c x1 → octets t2 ≡ multiples c b a d x2 → octets t3 ≡ multiples d c b a x3 → octets (bit_xor (bit_xor (bit_xor t0 t1) t2) t3) ≡ matrix_times a b c d (x0 ∷ x1 ∷ x2 ∷ x3 ∷ [])
@@ -109,13 +109,13 @@ unfolding sub_word
 sub_word-of w =
     rw (S_BOX-at (octet w 0) (octet_below (w / 2 ^ 24)), S_BOX-at (octet w 1) (octet_below (w / 2 ^ 16)), S_BOX-at (octet w 2) (octet_below (w / 2 ^ 8)), S_BOX-at (octet w 3) (octet_below w)) refl
 
-pub round_word-of : (a b c d k : ℕ) → octets (bit_xor (bit_xor (bit_xor (bit_xor (slice_index MIX_0 (octet a 0)) (slice_index MIX_1 (octet b 1))) (slice_index MIX_2 (octet c 2))) (slice_index MIX_3 (octet d 3))) k) ≡ xor_lists (mix_column (map sub_byte (diagonal a b c d))) (octets k)
+pub round_word-of : (a b c d k : ℕ) → octets (bit_xor (bit_xor (bit_xor (bit_xor (slice_index (get_or MIX 0 []) (octet a 0)) (slice_index (get_or MIX 1 []) (octet b 1))) (slice_index (get_or MIX 2 []) (octet c 2))) (slice_index (get_or MIX 3 []) (octet d 3))) k) ≡ xor_lists (mix_column (map sub_byte (diagonal a b c d))) (octets k)
 round_word-of a b c d k =
     keyed _ k (mix_column (map sub_byte (diagonal a b c d))) (
     summed 2 3 1 1 _ _ _ _ _ _ _ _ (MIX_0-at (octet a 0) (octet_below (a / 2 ^ 24))) (MIX_1-at (octet b 1) (octet_below (b / 2 ^ 16))) (MIX_2-at (octet c 2) (octet_below (c / 2 ^ 8))) (MIX_3-at (octet d 3) (octet_below d))
     )
 
-pub inverse_round_word-of : (a b c d k : ℕ) → octets (bit_xor (bit_xor (bit_xor (bit_xor (slice_index INVERSE_MIX_0 (octet a 0)) (slice_index INVERSE_MIX_1 (octet b 1))) (slice_index INVERSE_MIX_2 (octet c 2))) (slice_index INVERSE_MIX_3 (octet d 3))) k) ≡ xor_lists (inverse_mix_column (map inverse_sub_byte (diagonal a b c d))) (octets k)
+pub inverse_round_word-of : (a b c d k : ℕ) → octets (bit_xor (bit_xor (bit_xor (bit_xor (slice_index (get_or INVERSE_MIX 0 []) (octet a 0)) (slice_index (get_or INVERSE_MIX 1 []) (octet b 1))) (slice_index (get_or INVERSE_MIX 2 []) (octet c 2))) (slice_index (get_or INVERSE_MIX 3 []) (octet d 3))) k) ≡ xor_lists (inverse_mix_column (map inverse_sub_byte (diagonal a b c d))) (octets k)
 inverse_round_word-of a b c d k =
     keyed _ k (inverse_mix_column (map inverse_sub_byte (diagonal a b c d))) (
     summed 0x0E 0x0B 0x0D 0x09 _ _ _ _ _ _ _ _ (INVERSE_MIX_0-at (octet a 0) (octet_below (a / 2 ^ 24))) (INVERSE_MIX_1-at (octet b 1) (octet_below (b / 2 ^ 16))) (INVERSE_MIX_2-at (octet c 2) (octet_below (c / 2 ^ 8))) (INVERSE_MIX_3-at (octet d 3) (octet_below d))
@@ -152,7 +152,7 @@ unboxed i h = ap inverse_sub_byte (S_BOX-at i h) ∙ inverse_sub_byte-sub_byte i
 boxed_below : (i : ℕ) → i < 256 → slice_index S_BOX i < 256
 boxed_below i h = omega (arith, S_BOX-at i h, sub_byte-below i h)
 
-pub inverse_mix_word-of : (w : ℕ) → octets (bit_xor (bit_xor (bit_xor (slice_index INVERSE_MIX_0 (slice_index S_BOX (octet w 0))) (slice_index INVERSE_MIX_1 (slice_index S_BOX (octet w 1)))) (slice_index INVERSE_MIX_2 (slice_index S_BOX (octet w 2)))) (slice_index INVERSE_MIX_3 (slice_index S_BOX (octet w 3)))) ≡ inverse_mix_column (octets w)
+pub inverse_mix_word-of : (w : ℕ) → octets (bit_xor (bit_xor (bit_xor (slice_index (get_or INVERSE_MIX 0 []) (slice_index S_BOX (octet w 0))) (slice_index (get_or INVERSE_MIX 1 []) (slice_index S_BOX (octet w 1)))) (slice_index (get_or INVERSE_MIX 2 []) (slice_index S_BOX (octet w 2)))) (slice_index (get_or INVERSE_MIX 3 []) (slice_index S_BOX (octet w 3)))) ≡ inverse_mix_column (octets w)
 inverse_mix_word-of w =
     let h0 = octet_below (w / 2 ^ 24) in
     let h1 = octet_below (w / 2 ^ 16) in

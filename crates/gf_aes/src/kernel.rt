@@ -4,10 +4,7 @@ ghost use Rattle.std.specs.Prelude.{◌≡◌, map};
 ghost use Rattle.gf_aes.specs.Field.{inverse_sub_byte, sub_byte};
 ghost use Rattle.gf_aes.specs.Cipher.{diagonal, inverse_mix_column, mix_column, octet, octets, sub_word, word_of, xor_lists};
 
-use crate::tables::{
-    INVERSE_MIX_0, INVERSE_MIX_1, INVERSE_MIX_2, INVERSE_MIX_3, INVERSE_S_BOX, MIX_0, MIX_1, MIX_2,
-    MIX_3, S_BOX,
-};
+use crate::tables::{INVERSE_MIX, INVERSE_S_BOX, MIX, S_BOX};
 
 #[inline(always)]
 fn octet_0(word: u32) -> usize
@@ -63,7 +60,7 @@ pub(crate) fn sub_word(w: u32) -> u32
 pub(crate) fn round_word(a: u32, b: u32, c: u32, d: u32, key: u32) -> u32
     ensures { octets result ≡ xor_lists (mix_column (map sub_byte (diagonal a b c d))) (octets key) }
 {
-    MIX_0[octet_0(a)] ^ MIX_1[octet_1(b)] ^ MIX_2[octet_2(c)] ^ MIX_3[octet_3(d)] ^ key
+    MIX[0][octet_0(a)] ^ MIX[1][octet_1(b)] ^ MIX[2][octet_2(c)] ^ MIX[3][octet_3(d)] ^ key
 }
 
 /// A word of the last round, which has no MixColumns.
@@ -85,10 +82,10 @@ pub(crate) fn inverse_round_word(a: u32, b: u32, c: u32, d: u32, key: u32) -> u3
     ensures { octets result
         ≡ xor_lists (inverse_mix_column (map inverse_sub_byte (diagonal a b c d))) (octets key) }
 {
-    INVERSE_MIX_0[octet_0(a)]
-        ^ INVERSE_MIX_1[octet_1(b)]
-        ^ INVERSE_MIX_2[octet_2(c)]
-        ^ INVERSE_MIX_3[octet_3(d)]
+    INVERSE_MIX[0][octet_0(a)]
+        ^ INVERSE_MIX[1][octet_1(b)]
+        ^ INVERSE_MIX[2][octet_2(c)]
+        ^ INVERSE_MIX[3][octet_3(d)]
         ^ key
 }
 
@@ -109,8 +106,8 @@ pub(crate) fn inverse_last_word(a: u32, b: u32, c: u32, d: u32, key: u32) -> u32
 pub(crate) fn inverse_mix_word(w: u32) -> u32
     ensures { octets result ≡ inverse_mix_column (octets w) }
 {
-    INVERSE_MIX_0[S_BOX[octet_0(w)] as usize]
-        ^ INVERSE_MIX_1[S_BOX[octet_1(w)] as usize]
-        ^ INVERSE_MIX_2[S_BOX[octet_2(w)] as usize]
-        ^ INVERSE_MIX_3[S_BOX[octet_3(w)] as usize]
+    INVERSE_MIX[0][S_BOX[octet_0(w)] as usize]
+        ^ INVERSE_MIX[1][S_BOX[octet_1(w)] as usize]
+        ^ INVERSE_MIX[2][S_BOX[octet_2(w)] as usize]
+        ^ INVERSE_MIX[3][S_BOX[octet_3(w)] as usize]
 }
