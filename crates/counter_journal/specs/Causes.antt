@@ -1,5 +1,5 @@
 -- When the answers of a journal come, and how many device calls were made.
-use Rattle.std.specs.Prelude.{◌≡◌, ◌⊎◌, ℕ, ◌+◌, ◌<◌, ◌≤◌, Result, Ok, Err, IsErrOf}
+use Rattle.std.specs.Prelude.{◌≡◌, ℕ, ◌+◌, ◌<◌, ◌≤◌, Result, Ok, Err, IsErrOf}
 use Rattle.disk_model.specs.Counts.{Counts, HasRisen}
 use Rattle.disk_model.specs.declared.faults.DiskFault.TheVariants as fault
 use Rattle.counter_journal.specs.declared.lane_journal.JournalErr.{JournalErr}

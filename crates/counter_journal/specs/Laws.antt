@@ -3,8 +3,8 @@ use Rattle.std.specs.Prelude.{◌≡◌, ◌⊎◌, ℕ, ◌+◌, List, [], ◌�
 use Rattle.std.proofs.Common.{inl, inr, sym, ◌∙◌, ap, subst, arith, length-append}
 use Rattle.std.proofs.lemmas.List.{map-append}
 use Rattle.ota_core.specs.declared.entries.Entry.{Entry}
-use Rattle.gate_log.specs.Log.{four, part_octets, batch_octets, log_front, log_octets, IsClosedBehind, IsLogOf, CLOSED}
-use Rattle.gate_log.specs.Append.{front_of, opened_with, IsBeforeOrAfter, EndsClosed}
+use Rattle.gate_log.specs.Log.{four, part_octets, batch_octets, log_octets, IsClosedBehind, CLOSED}
+use Rattle.gate_log.specs.Append.{opened_with, IsBeforeOrAfter, EndsClosed}
 use Rattle.gate_log.specs.Laws.{front_of-log_octets, opened_with-log_octets, IsLogOf-log_octets, ends_in}
 use Rattle.counter_journal.specs.EntryOctets.{entry_octets}
 use Rattle.counter_journal.specs.Journal.{journal_head, single, framed, journal_octets, IsJournalOf}

@@ -1,7 +1,7 @@
 -- What the writes of an append make of the octets of a log.
 use Rattle.std.proofs.Common.{◌≡◌, ◌≢◌, ◌⊎◌, inl, inr, ℕ, suc, ◌+◌, ◌-◌, ◌<◌, List, [], ◌∷◌, ◌++◌, length, get_or, take, drop, sym, ◌∙◌, ap, subst, arith, append_assoc, length-append, take-append-drop}
 use Rattle.std.proofs.lemmas.Bool.{cases_eq}
-use Rattle.std.proofs.lemmas.List.{take_at, drop_at, drop_more, take_all, drop_all, append-nil, take-append-le, get_or-append-add}
+use Rattle.std.proofs.lemmas.List.{drop_at, drop_more, take_all, drop_all, append-nil, take-append-le, get_or-append-add}
 use Rattle.disk_model.specs.Disk.{overwritten, Torn, Follows, Only}
 use Rattle.gate_log.specs.Log.{OPEN, IsClosedBehind}
 use Rattle.gate_log.specs.Append.{EndsClosed, front_of, opened_with, IsBeforeOrAfter}

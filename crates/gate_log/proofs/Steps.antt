@@ -1,5 +1,5 @@
 -- What is known behind a write that is synced.
-use Rattle.std.proofs.Common.{◌≡◌, ℕ, Bool, List, IsTrue, Result, Ok, Err, OnOk, sym, subst}
+use Rattle.std.proofs.Common.{◌≡◌, ℕ, List, IsTrue, Result, Ok, Err, OnOk, sym, subst}
 use Rattle.disk_model.specs.declared.faults.DiskFault.{DiskFault}
 use Rattle.disk_model.specs.declared.faults.DiskFault.TheVariants.{Failed, Memory}
 use Rattle.disk_model.specs.Disk.{Meaning, Tells, Changes, Only, image_now}

@@ -1,6 +1,6 @@
 -- Laws of logs, for those who keep one.
 use Rattle.std.specs.Prelude.{◌≡◌, ◌≢◌, ℕ, ◌+◌, ◌-◌, ◌<◌, List, [], ◌∷◌, ◌++◌, length, take, drop, refl}
-use Rattle.std.proofs.Common.{get_or, suc, sym, ◌∙◌, ap, arith, append_assoc, length-append, take-append-drop}
+use Rattle.std.proofs.Common.{get_or, sym, ◌∙◌, ap, arith, append_assoc, length-append, take-append-drop}
 use Rattle.std.proofs.lemmas.List.{take_at, drop_more, drop_all, append-nil, get_or-append-add}
 use Rattle.std.proofs.lemmas.Grind.{flat_map-append}
 use Rattle.gate_log.specs.Log.{OPEN, CLOSED, batch_octets, opened_batches, log_front, log_octets, IsClosedBehind, IsLogOf}

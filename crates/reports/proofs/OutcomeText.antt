@@ -1,4 +1,4 @@
-use Rattle.std.proofs.Common.{◌≡◌, ℕ, Option, Some, None, List, [], ◌∷◌, ◌++◌, refl, sym, find}
+use Rattle.std.proofs.Common.{◌≡◌, ℕ, Option, Some, None, List, [], ◌++◌, refl, sym, find}
 use Rattle.ota_core.specs.Entry.{Reservation, is_settlement_of}
 use Rattle.ota_core.specs.Outcome.{settled_by, outcome_of_reservation}
 use Rattle.ota_core.specs.declared.entries.Entry.{Entry}

@@ -1,8 +1,8 @@
-use Rattle.std.proofs.Common.{◌≡◌, ℕ, ◌+◌, ◌-◌, List, [], ◌∷◌, ◌++◌, length, sym, ◌∙◌, ap, subst, arith}
-use Rattle.disk_model.specs.Disk.{Torn, Follows, Only, overwritten, image_now}
+use Rattle.std.proofs.Common.{◌≡◌, ℕ, ◌+◌, ◌-◌, [], ◌∷◌, length, sym, ◌∙◌, ap, subst}
+use Rattle.disk_model.specs.Disk.{Only, overwritten, image_now}
 use Rattle.disk_model.specs.Runs.{joined, weaker}
 use Rattle.gate_log.specs.Log.{OPEN}
-use Rattle.gate_log.specs.Append.{EndsClosed, opened_with, IsBeforeOrAfter, IsSettled}
+use Rattle.gate_log.specs.Append.{EndsClosed, opened_with, IsBeforeOrAfter}
 use Rattle.gate_log.proofs.Octets.{first_write, after_first, second_write, after_second, length-opened_with, ends_closed}
 use Rattle.gate_log.proofs.Steps.{still_tells, one_ok, both_ok}
 use Rattle.gate_log.proofs.appends.append.Goals as goal
