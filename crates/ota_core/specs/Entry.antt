@@ -1,0 +1,64 @@
+-- What an entry of a history says of a keyset, a counter or a job.
+use Rattle.std.specs.Prelude.{ℕ, Bool, false, ◌==◌, ◌&&◌, if◌then◌else◌, Option, Some, None, List}
+use Rattle.ota_core.specs.Keyset.{Keyset, is_same_keyset}
+use Rattle.ota_core.specs.Job.{is_same_job}
+use Rattle.ota_core.specs.declared.jobs.JobId.{JobId}
+use Rattle.ota_core.specs.declared.keysets.KeysetFacts.{KeysetFacts}
+use Rattle.ota_core.specs.declared.entries.Entry.{Entry}
+use Rattle.ota_core.specs.declared.entries.Entry.TheVariants.{Open, Reserve, Done, Refused, Close}
+
+-- a counter of a keyset
+pub record Reservation : Type 0 where
+  pub keyset : Keyset
+  pub counter : ℕ
+
+-- the keyset that the entry is of
+abbrev pub keyset_of : Entry → Keyset
+keyset_of (Open by keyset facts) = keyset
+keyset_of (Reserve by keyset counter job tar body) = keyset
+keyset_of (Done by keyset counter answer) = keyset
+keyset_of (Refused by keyset counter status) = keyset
+keyset_of (Close by keyset) = keyset
+
+-- the facts with which the entry opens the keyset
+abbrev pub facts_in : Keyset → Entry → Option KeysetFacts
+facts_in keyset (Open by opened facts) = if is_same_keyset opened keyset then Some facts else None
+facts_in keyset _ = None
+
+-- the entry opens the keyset
+abbrev pub is_open_of : Keyset → Entry → Bool
+is_open_of keyset (Open by opened facts) = is_same_keyset opened keyset
+is_open_of keyset _ = false
+
+-- the entry closes the keyset
+abbrev pub is_close_of : Keyset → Entry → Bool
+is_close_of keyset (Close by closed) = is_same_keyset closed keyset
+is_close_of keyset _ = false
+
+-- the counter of the keyset that the entry uses up: the base of its Open, or the reserved one
+abbrev pub counter_in : Keyset → Entry → Option ℕ
+counter_in keyset (Open by opened facts) = if is_same_keyset opened keyset then Some facts.base else None
+counter_in keyset (Reserve by reserved counter job tar body) = if is_same_keyset reserved keyset then Some counter else None
+counter_in keyset _ = None
+
+-- the reservation that the entry makes for the job
+abbrev pub reservation_in : JobId → Entry → Option Reservation
+reservation_in job (Reserve by keyset counter reserved tar body) =
+    if is_same_job reserved job then Some (record { keyset = keyset; counter = counter }) else None
+reservation_in job _ = None
+
+-- the entry reserves this counter of the keyset
+abbrev pub is_reserve_of : Reservation → Entry → Bool
+is_reserve_of place (Reserve by keyset counter job tar body) = is_same_keyset keyset place.keyset && (counter == place.counter)
+is_reserve_of place _ = false
+
+-- the entry settles this counter of the keyset as refused
+abbrev pub is_refusal_of : Reservation → Entry → Bool
+is_refusal_of place (Refused by keyset counter status) = is_same_keyset keyset place.keyset && (counter == place.counter)
+is_refusal_of place _ = false
+
+-- the entry settles this counter of the keyset
+abbrev pub is_settlement_of : Reservation → Entry → Bool
+is_settlement_of place (Done by keyset counter answer) = is_same_keyset keyset place.keyset && (counter == place.counter)
+is_settlement_of place (Refused by keyset counter status) = is_same_keyset keyset place.keyset && (counter == place.counter)
+is_settlement_of place _ = false

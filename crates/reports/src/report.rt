@@ -1,0 +1,173 @@
+ghost use Rattle.std.specs.Prelude.{◌≡◌, ◌<◌, ◌∷◌, [], ◌++◌, length, reverse, string_bytes, IfOk, OnOk, codes};
+ghost use Rattle.std.specs.Option.{option_copied};
+ghost use Rattle.hex.specs.Hex.{encode_lower};
+ghost use Rattle.ota_core.specs.Outcome.{settled_by, outcome_of};
+ghost use Rattle.reports.specs.Note.{note_text};
+ghost use Rattle.reports.specs.Lookup.{place_of};
+ghost use Rattle.reports.specs.Report.{report_of, header, unreserved, row_of, note_of, job_text, outcome_text, counter_text, answer_text, history_of};
+
+use crate::lookup::{Note, last_reservation, settlement, unreserved_note};
+use ota_core::{Counter, Entry, History, Job, KeysetId, Memory};
+use std::alloc::Global;
+
+/// The report of the jobs, by the histories of the lanes in their order.
+///
+/// It has a line for its columns, `job,card,kvn,outcome,counter,note`, and then a line for each job, in order of
+/// the jobs. A job stands by the history of its keyset's lane.
+pub fn report_text(alloc: Global, jobs: &[Job], histories: &[History]) -> Result<String, Memory>
+    requires { 0 < length histories.now }
+    ensures { IfOk result (λ text. string_bytes text ≡ report_of jobs.now histories.now) }
+{
+    let mut text = String::from_str(alloc, header())?;
+    for job in jobs {
+        let entries = history_of(histories, &job.keyset);
+        put_row(&mut text, entries, job)?;
+    }
+    Ok(text)
+}
+
+#[tactic(auto, unfolding(crate::specs::Report::header))]
+fn header() -> &'static str
+    ensures { result.now ≡ header }
+{
+    "job,card,kvn,outcome,counter,note\n"
+}
+
+fn history_of<'a>(histories: &'a [History], keyset: &KeysetId) -> &'a [Entry]
+    requires { 0 < length histories.now }
+    ensures { result.now ≡ history_of histories.now keyset.now.card }
+{
+    let lane = keyset.card.0 % histories.len() as u64;
+    histories[lane as usize].entries()
+}
+
+fn put_row(text: &mut String, entries: &[Entry], job: &Job) -> Result<(), Memory>
+    ensures { OnOk result (string_bytes text.new ≡ string_bytes text.old ++ row_of entries.now job.now) }
+{
+    put_job(text, job)?;
+    put_outcome(text, entries, job)?;
+    text.push_str("\n")?;
+    Ok(())
+}
+
+#[tactic(auto, using(crate::proofs::OutcomeText::outcome_text_reserved, crate::proofs::OutcomeText::outcome_text_new))]
+fn put_outcome(text: &mut String, entries: &[Entry], job: &Job) -> Result<(), Memory>
+    ensures { OnOk result (string_bytes text.new ≡ string_bytes text.old ++ outcome_text (note_of job.now.keyset (reverse entries.now)) (outcome_of entries.now job.now.id)) }
+{
+    match last_reservation(entries, job.id) {
+        None => put_unreserved(text, unreserved_note(entries, &job.keyset)),
+        Some((keyset, counter)) => {
+            put_reserved(
+                text,
+                &keyset,
+                counter,
+                settlement(entries, &keyset, counter),
+            )
+        }
+    }
+}
+
+fn put_job(text: &mut String, job: &Job) -> Result<(), Memory>
+    ensures { OnOk result (string_bytes text.new ≡ string_bytes text.old ++ job_text job.now) }
+{
+    let number = job.id.job;
+    let card = job.keyset.card.0;
+    let kvn = job.keyset.kvn;
+    write!(text, "{number},{card},{kvn},")?;
+    Ok(())
+}
+
+/// The text of a job without a reservation.
+fn put_unreserved(text: &mut String, note: Note) -> Result<(), Memory>
+    ensures { OnOk result (string_bytes text.new ≡ string_bytes text.old ++ (unreserved ++ note_text note)) }
+{
+    text.push_str(unreserved_columns())?;
+    text.push_str(note_word(note))?;
+    Ok(())
+}
+
+#[tactic(auto, unfolding(crate::specs::Report::unreserved))]
+fn unreserved_columns() -> &'static str
+    ensures { result.now ≡ unreserved }
+{
+    "unsettled,-,"
+}
+
+fn note_word(note: Note) -> &'static str
+    ensures { result.now ≡ note_text note }
+{
+    match note {
+        Note::New => "new",
+        Note::Closed => "closed",
+        Note::Exhausted => "exhausted",
+        Note::Open => "-",
+    }
+}
+
+/// The text of a reservation, by the entry that settles it.
+fn put_reserved(
+    text: &mut String,
+    keyset: &KeysetId,
+    counter: Counter,
+    settled: Option<&Entry>,
+) -> Result<(), Memory>
+    ensures { OnOk result (string_bytes text.new ≡ string_bytes text.old ++ outcome_text [] (settled_by (place_of (keyset.now, counter)) (option_copied settled.entry))) }
+{
+    match settled {
+        Some(Entry::Done { answer, .. }) => put_done(text, counter, answer.as_slice()),
+        Some(Entry::Refused { status, .. }) => put_refused(text, counter, *status),
+        _ => put_unsettled(text, counter),
+    }
+}
+
+fn put_unsettled(text: &mut String, counter: Counter) -> Result<(), Memory>
+    ensures { OnOk result (string_bytes text.new ≡ string_bytes text.old ++ (codes "unsettled," ++ counter_text counter ++ codes ",-")) }
+{
+    text.push_str("unsettled,")?;
+    put_counter(text, counter)?;
+    text.push_str(",-")?;
+    Ok(())
+}
+
+fn put_done(text: &mut String, counter: Counter, answer: &[u8]) -> Result<(), Memory>
+    ensures { OnOk result (string_bytes text.new ≡ string_bytes text.old ++ (codes "done," ++ counter_text counter ++ codes "," ++ answer_text answer.now)) }
+{
+    text.push_str("done,")?;
+    put_counter(text, counter)?;
+    text.push_str(",")?;
+    put_answer(text, answer)
+}
+
+fn put_refused(text: &mut String, counter: Counter, status: u8) -> Result<(), Memory>
+    ensures { OnOk result (string_bytes text.new ≡ string_bytes text.old ++ (codes "refused," ++ counter_text counter ++ codes "," ++ encode_lower (status ∷ []))) }
+{
+    text.push_str("refused,")?;
+    put_counter(text, counter)?;
+    text.push_str(",")?;
+    put_hex(text, &[status])
+}
+
+#[tactic(auto, unfolding(crate::specs::Report::counter_text))]
+fn put_counter(text: &mut String, counter: Counter) -> Result<(), Memory>
+    ensures { OnOk result (string_bytes text.new ≡ string_bytes text.old ++ counter_text counter) }
+{
+    put_hex(text, &counter.0.to_be_bytes()[3..])
+}
+
+fn put_answer(text: &mut String, answer: &[u8]) -> Result<(), Memory>
+    ensures { OnOk result (string_bytes text.new ≡ string_bytes text.old ++ answer_text answer.now) }
+{
+    if answer.is_empty() {
+        text.push_str("-")?;
+        return Ok(());
+    }
+    put_hex(text, answer)
+}
+
+fn put_hex(text: &mut String, octets: &[u8]) -> Result<(), Memory>
+    ensures { OnOk result (string_bytes text.new ≡ string_bytes text.old ++ encode_lower octets.now) }
+{
+    let digits = hex::encode(*text.allocator(), octets)?;
+    text.push_str(digits.as_str())?;
+    Ok(())
+}
