@@ -1,0 +1,5 @@
+pub mod Apdu
+pub mod Compact
+pub mod Refusal
+pub mod Reply
+pub mod Script

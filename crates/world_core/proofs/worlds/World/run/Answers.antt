@@ -1,0 +1,31 @@
+use Rattle.std.proofs.Common.{subst}
+use Rattle.world_core.specs.WorldState.{WorldState}
+use Rattle.ota_core.specs.History.{IsLegal}
+use Rattle.world_core.proofs.SoundLemmas.{legal_history}
+use Rattle.world_core.specs.Headline.{SentIsReserved, LogsAreSound, AnswersAreTrue, AtMostOnce, GivenWasMade, LinesAreReserved, OneCounter}
+use Rattle.world_core.proofs.HeadlineLemmas.{at_most_once, one_counter}
+use Rattle.world_core.proofs.worlds.World.run.Goals as goal
+
+pub returns-clause-one_counter : goal.returns-clause-one_counter
+returns-clause-one_counter c = subst (λ (w : WorldState). OneCounter w) c.self.view_is (one_counter c.self.inside.parts c.self.invariant)
+
+pub returns-clause-at_most_once : goal.returns-clause-at_most_once
+returns-clause-at_most_once c = subst (λ (w : WorldState). AtMostOnce w) c.self.view_is (at_most_once c.self.inside.parts c.self.invariant)
+
+pub returns-clause-lines_reserved : goal.returns-clause-lines_reserved
+returns-clause-lines_reserved c = subst (λ (w : WorldState). LinesAreReserved w) c.self.view_is (c.self.invariant.reserved)
+
+pub returns-clause-answers_true : goal.returns-clause-answers_true
+returns-clause-answers_true c = subst (λ (w : WorldState). AnswersAreTrue w) c.self.view_is (c.self.invariant.answers)
+
+pub returns-clause-given_made : goal.returns-clause-given_made
+returns-clause-given_made c = subst (λ (w : WorldState). GivenWasMade w) c.self.view_is (c.self.invariant.given)
+
+pub returns-clause-legal : goal.returns-clause-legal
+returns-clause-legal c = subst (λ (w : WorldState). IsLegal w.history) c.self.view_is (legal_history c.self.inside.parts c.self.invariant)
+
+pub returns-clause-sent_reserved : goal.returns-clause-sent_reserved
+returns-clause-sent_reserved c = subst (λ (w : WorldState). SentIsReserved w) c.self.view_is (c.self.invariant.sent)
+
+pub returns-clause-logs_sound : goal.returns-clause-logs_sound
+returns-clause-logs_sound c = subst (λ (w : WorldState). LogsAreSound w) c.self.view_is (c.self.invariant.cards)

@@ -1,0 +1,11 @@
+pub mod Members
+pub mod Packet
+pub mod Card
+pub mod Receiving
+pub mod WorldState
+pub mod Condition
+pub mod Effect
+pub mod Journal
+pub mod Headline
+pub mod Sound
+pub mod Run

@@ -1,0 +1,27 @@
+-- What each world keeps.
+use Rattle.std.specs.Prelude.{◌≡◌, ◌≢◌, ℕ, Option, Some, List, [], ◌∷◌, map}
+use Rattle.ota_core.specs.History.{IsLegal}
+use Rattle.ota_core.specs.declared.cards.CardId.{CardId}
+use Rattle.ota_core.specs.declared.cards.CardFacts.{CardFacts}
+use Rattle.ota_core.specs.declared.entries.Entry.{Entry}
+use Rattle.world_core.specs.Members.{In}
+use Rattle.world_core.specs.Packet.{Packet, packet_at}
+use Rattle.world_core.specs.Card.{CardState, IsCardState}
+use Rattle.world_core.specs.WorldState.{WorldState, written}
+use Rattle.world_core.specs.Headline.{SentIsReserved, LogsAreSound, TrueReports, LinesAreReserved, AnswersAreTrue, GivenWasMade}
+use Rattle.world_core.specs.declared.segments.Sent.{Sent}
+
+-- the numbers differ
+abbrev pub Differ : List CardId → Type 0
+Differ [] = Unit {0}
+Differ (card ∷ cards) = ((other : CardId) → In other cards → other ≢ card) × Differ cards
+
+pub record IsSound (w : WorldState) : Type 0 where
+  pub legal : IsLegal (written w)
+  pub sent : SentIsReserved w
+  pub differ : Differ (map (λ state. state.facts.card) w.cards)
+  pub cards : LogsAreSound w
+  pub reserved : LinesAreReserved w
+  pub answers : AnswersAreTrue w
+  pub given : GivenWasMade w
+  pub reports : TrueReports w
