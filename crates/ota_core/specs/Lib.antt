@@ -5,3 +5,4 @@ pub mod Job
 pub mod Entry
 pub mod History
 pub mod Outcome
+pub mod Security
