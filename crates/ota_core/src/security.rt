@@ -140,3 +140,6 @@ fn read_answer_security(octet: u8) -> Option<bool>
         _ => None,
     }
 }
+
+#[cfg(test)]
+mod tests;
