@@ -1,5 +1,5 @@
 -- How a packet is secured: SPI, KIc and KID (ETSI TS 102 225, 5.1.1 to 5.1.3), of which the profile takes a part.
-use Rattle.std.specs.Prelude.{ℕ, ◌+◌, ◌*◌, ◌/◌, ◌%◌, ◌≤◌, ◌==◌, ◌&&◌, nat_lt, Bool, true, false, if◌then◌else◌, Option, Some, None, List, [], ◌∷◌}
+use Rattle.std.specs.Prelude.{ℕ, ◌+◌, ◌*◌, ◌/◌, ◌%◌, ◌==◌, ◌&&◌, nat_lt, Bool, true, false, if◌then◌else◌, Option, Some, None, List, [], ◌∷◌}
 use Rattle.ota_core.specs.declared.keysets.Mode.{Mode}
 use Rattle.ota_core.specs.declared.keysets.Mode.TheVariants.{Higher, Next}
 use Rattle.ota_core.specs.declared.security.Spi.{Spi}
