@@ -1,0 +1,4 @@
+pub mod Cut
+pub mod Header
+pub mod Kept
+pub mod Assembled
