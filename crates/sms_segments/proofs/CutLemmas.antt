@@ -1,5 +1,5 @@
 -- How many messages a packet takes, and where their octets stand in it.
-use Rattle.std.proofs.Common.{◌≡◌, ℕ, ◌+◌, ◌-◌, ◌*◌, ◌/◌, ◌<◌, ◌≤◌, min, List, length, take, drop, arith, refl, sym, ap, ◌∙◌}
+use Rattle.std.proofs.Common.{◌≡◌, ℕ, ◌+◌, ◌-◌, ◌*◌, ◌<◌, ◌≤◌, min, List, length, take, drop, arith, ap, ◌∙◌}
 use Rattle.std.proofs.lemmas.Bool.Decides.{nat_tests}
 use Rattle.std.proofs.lemmas.List.{length-drop, take_all, take_min}
 use Rattle.sms_segments.specs.Cut.{octets_at, pieces_count}
@@ -26,3 +26,9 @@ pub filled_from : (packet : List ℕ) (start k : ℕ) → k ≡ min 134 (length 
 filled_from packet start k is =
     let rest : List ℕ = take (length packet - start) (drop start packet) in
     ap (λ n. take n rest) is ∙ take_min 134 rest ∙ ap (take 134) (rest_from packet start)
+
+pub two_or_more : (len : ℕ) → 137 < len → 2 ≤ pieces_count len
+two_or_more len long = grind (arith, nat_tests)
+
+pub last_reaches : (len : ℕ) → 137 < len → len ≤ 132 + 134 * (pieces_count len - 1)
+last_reaches len long = grind (arith, nat_tests)

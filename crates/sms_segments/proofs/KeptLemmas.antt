@@ -1,5 +1,5 @@
 -- What is kept after a piece is kept, or a packet is forgotten, and how long a joined packet is.
-use Rattle.std.proofs.Common.{◌≡◌, ℕ, zero, suc, ◌+◌, ◌-◌, ◌<◌, ◌≤◌, Bool, true, false, not, ◌&&◌, cond, eqb, Option, Some, None, List, [], ◌∷◌, ◌++◌, length, sum_by, refl, sym, ap, ◌∙◌, subst, arith, length-append, add-zero, add-one, inl, inr}
+use Rattle.std.proofs.Common.{◌≡◌, ℕ, zero, suc, ◌+◌, ◌-◌, ◌<◌, ◌≤◌, Bool, true, false, not, ◌&&◌, cond, eqb, Option, Some, None, List, [], ◌∷◌, ◌++◌, length, sum_by, refl, sym, ap, ◌∙◌, arith, length-append, add-zero, add-one, inl, inr}
 use Rattle.std.specs.Prelude.{find, filter, unwrap_or}
 use Rattle.std.specs.Option.{option_map, option_or}
 use Rattle.std.proofs.lemmas.Bool.{and_parts, and_from, and_left, and_right, eqb-true, eq-eqb, ne_eqb, cases_eq, cases_Bool, both_ways, cond-true, cond-false, not_from_true, not_from_false, false_from_ne_true}
@@ -71,7 +71,7 @@ other_place of place of' place' piece differs here = false_from_ne_true _ (λ th
 -- what is kept once a piece takes the place of the one before it
 pub kept_in-keep : (xs : List KeptPiece) (new : KeptPiece) (of : Concatenation) (place : ℕ)
     → kept_in (filter (λ piece. not (is_at new.of new.place piece)) xs ++ new ∷ []) of place
-      ≡ cond (is_same new.of of) (with_piece new.place new.octets.items (kept_in xs of) place) (kept_in xs of place)
+    ≡ cond (is_same new.of of) (with_piece new.place new.octets.items (kept_in xs of) place) (kept_in xs of place)
 kept_in-keep xs new of place =
     let rest : List KeptPiece = filter (λ piece. not (is_at new.of new.place piece)) xs in
     let split = ap (option_map (λ piece. piece.octets.items)) (find-append (is_at of place) rest (new ∷ [])) in
@@ -84,8 +84,8 @@ kept_in-keep xs new of place =
         | inl there ↦
             let here : is_at of place new ≡ true = and_from _ _ one (eq-eqb new.place place (sym there)) in
             let none = find-dropped (is_at of place) (λ piece. not (is_at new.of new.place piece)) xs (λ piece found.
-                let moved : is_at of place piece ≡ is_at new.of new.place piece = λ i. is_at (sym (is_same-true new.of of one) i) (there i) piece in
-                not_from_true _ (sym moved ∙ found)) in
+            let moved : is_at of place piece ≡ is_at new.of new.place piece = λ i. is_at (sym (is_same-true new.of of one) i) (there i) piece in
+            not_from_true _ (sym moved ∙ found)) in
             split ∙ rw (none, here, one, eq-eqb place new.place there) refl
         | inr elsewhere ↦
             let gone : is_at of place new ≡ false = and_right _ _ (ne_eqb new.place place (λ e. elsewhere (sym e))) in
@@ -101,11 +101,11 @@ kept_in-forget xs gone of place = elim (cases_Bool (is_same gone of)) [
   | inl one ↦
       let same = is_same-true gone of one in
       let none = find-dropped (is_at of place) (λ piece. not (is_same piece.of gone)) xs (λ piece found.
-          not_from_true _ (ap (λ k. is_same piece.of k) same ∙ (and_parts (is_same piece.of of) (eqb piece.place place) found).0)) in
+      not_from_true _ (ap (λ k. is_same piece.of k) same ∙ (and_parts (is_same piece.of of) (eqb piece.place place) found).0)) in
       rw (none, one) refl
   | inr another ↦
       let kept = find-kept (is_at of place) (λ piece. not (is_same piece.of gone)) xs (λ piece found. not_from_false _ (false_from_ne_true _ (λ is.
-          both_ways _ another (ap (λ k. is_same k of) (sym (is_same-true piece.of gone is)) ∙ (and_parts (is_same piece.of of) (eqb piece.place place) found).0)))) in
+      both_ways _ another (ap (λ k. is_same k of) (sym (is_same-true piece.of gone is)) ∙ (and_parts (is_same piece.of of) (eqb piece.place place) found).0)))) in
       rw (kept, another) refl
 ]
 

@@ -1,10 +1,10 @@
 -- What is kept after a piece is taken, and what room there is for it.
-use Rattle.std.proofs.Common.{◌≡◌, ℕ, ◌+◌, ◌<◌, ◌≤◌, Bool, true, false, not, ◌&&◌, cond, ltb, leb, List, length, refl, sym, ap, ◌∙◌, arith, inl, inr}
+use Rattle.std.proofs.Common.{◌≡◌, ℕ, ◌<◌, ◌≤◌, Bool, true, false, not, ◌&&◌, cond, ltb, leb, List, length, refl, sym, ap, ◌∙◌, arith, inl, inr}
 use Rattle.std.specs.Prelude.{filter}
 use Rattle.std.proofs.lemmas.Bool.{and_parts, cases_Bool, cond-true, cond-false, ltb-true, leb-true}
 use Rattle.sms_segments.specs.declared.concatenations.Concatenation.{Concatenation}
 use Rattle.sms_segments.specs.declared.kept_pieces.KeptPiece.{KeptPiece}
-use Rattle.sms_segments.specs.Assembled.{Pieces, is_same, is_whole, no_pieces, unless_whole, with_piece}
+use Rattle.sms_segments.specs.Assembled.{is_same, is_whole, with_piece}
 use Rattle.sms_segments.specs.Kept.{kept_after, kept_in, octets_wanted, room_for}
 use Rattle.sms_segments.proofs.KeptLemmas.{is_same-true, kept_in-forget}
 

@@ -1,7 +1,7 @@
 -- Which packets messages make: a function of the whole list of messages. 3GPP TS 23.040, 9.2.3.24.1.
 --
 -- A past is the messages before one, newest first.
-use Rattle.std.specs.Prelude.{ℕ, zero, suc, ◌+◌, ◌==◌, ◌&&◌, Bool, true, if◌then◌else◌, Option, Some, None, is_some, unwrap_or, List, [], ◌∷◌, ◌++◌}
+use Rattle.std.specs.Prelude.{ℕ, zero, suc, ◌==◌, ◌&&◌, Bool, true, if◌then◌else◌, Option, Some, None, is_some, unwrap_or, List, [], ◌∷◌, ◌++◌}
 use Rattle.ota_core.specs.declared.cards.CardId.{CardId}
 use Rattle.sms_segments.specs.declared.headers.Header.{Header}
 use Rattle.sms_segments.specs.declared.headers.Header.TheVariants.{Only, Part}

@@ -1,5 +1,5 @@
 -- Which user data headers are read. 3GPP TS 23.040, 9.2.3.24; 3GPP TS 31.115, 4.
-use Rattle.std.specs.Prelude.{ℕ, ◌+◌, ◌≤◌, ◌==◌, ◌&&◌, nat_le, Bool, false, if◌then◌else◌, Option, Some, None, List, ◌∷◌, length, drop}
+use Rattle.std.specs.Prelude.{ℕ, ◌≤◌, ◌==◌, ◌&&◌, nat_le, Bool, false, if◌then◌else◌, Option, Some, None, List, ◌∷◌, length, drop}
 use Rattle.std.specs.Option.{option_or}
 use Rattle.ota_core.specs.declared.references.Reference.{Reference}
 use Rattle.ota_core.specs.declared.references.Reference.TheVariants.{Short}

@@ -2,3 +2,4 @@ pub mod Cut
 pub mod Header
 pub mod Kept
 pub mod Assembled
+pub mod Arrivals

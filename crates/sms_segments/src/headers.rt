@@ -70,15 +70,9 @@ fn first_in(element: u8, message: &[u8]) -> Option<Header>
 {
     match message {
         [0x07, 0x00, 0x03, reference, total, 0x01, e, 0x00, _, ..]
-            if *e == element && *total >= 1 =>
-        {
-            Some(first(*reference, *total))
-        }
+            if *e == element && *total >= 1 => { Some(first(*reference, *total)) }
         [0x07, e, 0x00, 0x00, 0x03, reference, total, 0x01, _, ..]
-            if *e == element && *total >= 1 =>
-        {
-            Some(first(*reference, *total))
-        }
+            if *e == element && *total >= 1 => { Some(first(*reference, *total)) }
         _ => None,
     }
 }

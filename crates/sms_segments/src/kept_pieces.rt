@@ -88,11 +88,7 @@ pub fn is_whole(pieces: &[KeptPiece], arrival: &Arrival, octets: &[u8]) -> bool
 }
 
 /// Keeps the piece that arrives, in the place of one that is there already.
-pub fn keep(
-    pieces: &mut Vec<KeptPiece>,
-    arrival: &Arrival,
-    octets: &[u8],
-) -> Result<(), Memory>
+pub fn keep(pieces: &mut Vec<KeptPiece>, arrival: &Arrival, octets: &[u8]) -> Result<(), Memory>
     requires { length octets.now ≤ 134 }
     ensures ok { OnOk result ((of : Concatenation) (place : ℕ) → kept_in pieces.new.items of place ≡ (if is_same arrival.now.of of then with_piece arrival.now.place octets.now (kept_in pieces.old.items of) place else kept_in pieces.old.items of place)) }
     ensures err { OnErr result (pieces.new.items ≡ pieces.old.items) }

@@ -10,7 +10,12 @@ mod concatenations;
 mod cutting;
 mod headers;
 mod kept_pieces;
+mod laws;
 mod spare_rooms;
 
 pub use assembling::{Assembler, Push};
 pub use cutting::{piece, pieces_of};
+pub use laws::pieces_make_packets;
+
+#[cfg(test)]
+mod tests;

@@ -1,5 +1,5 @@
-use Rattle.std.proofs.Common.{◌≡◌, ℕ, ◌+◌, ◌<◌, ◌≤◌, Option, Some, List, ◌∙◌, ap, sym, length, arith, rules}
-use Rattle.std.specs.Prelude.{vec_capacity, vec_len}
+use Rattle.std.proofs.Common.{◌≡◌, ℕ, ◌+◌, ◌<◌, Some, ap, length, arith, rules}
+use Rattle.std.specs.Prelude.{vec_capacity}
 use Rattle.sms_segments.specs.Assembled.{Pieces, joined, with_piece}
 use Rattle.sms_segments.specs.Kept.{kept_in}
 use Rattle.sms_segments.proofs.KeptLemmas.{joined-within}

@@ -1,4 +1,4 @@
-use Rattle.std.proofs.Common.{◌≡◌, ◌≤◌, length, vec_capacity}
+use Rattle.std.proofs.Common.{◌≡◌, ◌≤◌, vec_capacity}
 use Rattle.sms_segments.specs.Assembled.{joined, with_piece}
 use Rattle.sms_segments.specs.Kept.{kept_in}
 use Rattle.sms_segments.proofs.kept_pieces.join.Given as goal

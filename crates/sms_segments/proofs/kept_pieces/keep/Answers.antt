@@ -1,4 +1,4 @@
-use Rattle.std.proofs.Common.{◌≡◌, ℕ, not, List, [], ◌∷◌, ◌++◌, ◌∙◌, ap, refl, rules, arith, sym, cond}
+use Rattle.std.proofs.Common.{◌≡◌, not, List, [], ◌∷◌, ◌++◌, ◌∙◌, ap, rules, cond}
 use Rattle.std.specs.Prelude.{filter}
 use Rattle.sms_segments.specs.declared.kept_pieces.KeptPiece.{KeptPiece}
 use Rattle.sms_segments.specs.Assembled.{is_same, with_piece}

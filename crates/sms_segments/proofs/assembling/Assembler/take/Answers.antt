@@ -1,9 +1,9 @@
-use Rattle.std.proofs.Common.{◌≡◌, ℕ, ◌≤◌, true, false, List, length, refl, sym, ap, ◌∙◌, arith, rules}
+use Rattle.std.proofs.Common.{◌≡◌, ℕ, ◌≤◌, true, false, List, length, ap, arith, rules}
 use Rattle.std.specs.Prelude.{vec_capacity}
 use Rattle.std.proofs.lemmas.Bool.{false≢true}
 use Rattle.sms_segments.specs.declared.kept_pieces.KeptPiece.{KeptPiece}
 use Rattle.sms_segments.specs.Assembled.{is_whole, joined, with_piece}
-use Rattle.sms_segments.specs.Kept.{kept_in, room_for}
+use Rattle.sms_segments.specs.Kept.{kept_in}
 use Rattle.sms_segments.proofs.KeptLemmas.{joined-arrival}
 use Rattle.sms_segments.proofs.TakeLemmas.{keeps-part, keeps-whole, room_for-roomy, Roomy}
 use Rattle.sms_segments.proofs.assembling.Assembler.take.Goals as goal
