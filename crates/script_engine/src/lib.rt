@@ -3,11 +3,11 @@
 //! ETSI TS 102 226, 5.2.1.
 #![tactic(auto)]
 
-pub mod card;
-pub mod command;
-pub mod part;
-pub mod ran;
-pub mod step;
+mod card;
+mod command;
+mod part;
+mod ran;
+mod step;
 
 pub use card::CardState;
 pub use part::Part;
