@@ -69,7 +69,7 @@ read_key-written kvn above below =
 
 -- ---- checksums
 
-bytes_eq-same : (s : List ℕ) → bytes_eq s s ≡ true
+pub bytes_eq-same : (s : List ℕ) → bytes_eq s s ≡ true
 bytes_eq-same [] = refl
 bytes_eq-same (x ∷ s) = rw (eq-eqb x x refl) (bytes_eq-same s)
 
@@ -83,7 +83,7 @@ pub padding-few : (ciphered : Bool) (len : ℕ) → padding_len ciphered len ≤
 padding-few true len = omega arith
 padding-few false len = omega arith
 
-blocks : (ciphered says : Bool) (left : ℕ) → says ≡ ciphered → (ciphered ≡ true → left ≡ 0) → (not says || eqb left 0) ≡ true
+pub blocks : (ciphered says : Bool) (left : ℕ) → says ≡ ciphered → (ciphered ≡ true → left ≡ 0) → (not says || eqb left 0) ≡ true
 blocks true says left is whole = or_right (not says) (eqb left 0) (eq-eqb left 0 (whole refl))
 blocks false says left is whole = or_left (not says) (eqb left 0) (not_from_false says is)
 

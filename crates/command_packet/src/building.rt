@@ -92,7 +92,7 @@ pub fn build_in(
 {
     let padding = padding_len(spi.ciphered, 14 + body.len());
     put_checked(out, kvn, spi, tar, counter, padding, body);
-    put_checksum(keys.kid(), out, 16);
+    put_checksum(keys.kid(), out, 8, 16);
     cipher(spi.ciphered, keys.kic(), out, 10);
 }
 

@@ -51,15 +51,16 @@ pub fn decipher(ciphered: bool, key: &KeySchedule, octets: &mut [u8])
     }
 }
 
-/// Puts the cryptographic checksum of all that stands behind the first 8 octets, in the place of these, behind the next
-/// `front` octets.
-pub fn put_checksum(key: &KeySchedule, out: &mut PacketBuf, front: usize)
-    requires { front + 8 ≤ length out.old.items }
-    ensures octets { out.new.items ≡ take front (drop 8 out.old.items) ++ checksum_of key.now (drop 8 out.old.items) ++ drop (front + 8) out.old.items }
+/// Puts the cryptographic checksum of all that stands from the place `from` on, in the place of the first 8 octets, behind
+/// the next `front` octets.
+pub fn put_checksum(key: &KeySchedule, out: &mut PacketBuf, from: usize, front: usize)
+    requires within { from ≤ 8 }
+    requires room { front + 8 ≤ length out.old.items }
+    ensures octets { out.new.items ≡ take front (drop 8 out.old.items) ++ checksum_of key.now (drop from out.old.items) ++ drop (front + 8) out.old.items }
     ensures len { length out.new.items ≡ length out.old.items }
-    ensures eight { length (checksum_of key.now (drop 8 out.old.items)) ≡ 8 }
+    ensures eight { length (checksum_of key.now (drop from out.old.items)) ≡ 8 }
 {
-    let checksum = cmac8(key, &out.as_slice()[8..]);
+    let checksum = cmac8(key, &out.as_slice()[from..]);
     place(out.as_mut_slice(), &checksum, front);
 }
 
