@@ -5,9 +5,9 @@ use Rattle.ota_core.specs.Security.{spi_octets, key_octet}
 use Rattle.aes_modes.specs.KeyPair.{KeyPair}
 use Rattle.command_packet.specs.Secured.{checksum_of, five, padding_len, sent, two, with_padding}
 
--- the octets of CHL, from SPI to the end of CC
+-- CHL, the number of octets from SPI to the end of CC: 2 of SPI, 1 of KIc, 1 of KID, 3 of TAR, 5 of CNTR, 1 of PCNTR, 8
 abbrev pub HEADER_LEN : ℕ
-HEADER_LEN = 15
+HEADER_LEN = 0x15
 
 -- CPL, CHL, SPI, KIc, KID and TAR, where so many octets follow CPL
 abbrev pub head_octets : ℕ → Spi → ℕ → List ℕ → List ℕ

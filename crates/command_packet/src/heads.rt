@@ -6,8 +6,8 @@ ghost use Rattle.command_packet.specs.Carried.{has_form, kvn_in, says_ciphered, 
 use crate::fields::len_of;
 use ota_core::{Spi, read_kic, read_kid, read_spi};
 
-/// CHL: the octets from SPI to the end of CC.
-pub const HEADER_LEN: u8 = 15;
+/// CHL: the number of octets from SPI to the end of CC, 21.
+pub const HEADER_LEN: u8 = 0x15;
 
 /// The key version number that a packet names, where its form is right, SPI, KIc and KID are of the profile, and KIc
 /// and KID name one keyset.

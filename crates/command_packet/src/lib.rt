@@ -14,3 +14,6 @@ pub use building::{build, build_in};
 pub use fields::PacketBuf;
 pub use heads::kvn_of;
 pub use opening::{Command, OpenErr, open};
+
+#[cfg(test)]
+mod tests;

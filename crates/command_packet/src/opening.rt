@@ -29,8 +29,8 @@ pub struct Command {
 /// Why a packet isn't opened. Where several apply, the first one here.
 #[derive(Clone, Copy, Debug, PartialEq, Eq)]
 pub enum OpenErr {
-    /// There are fewer than 24 octets, CPL isn't their number less 2, CHL isn't 15, or what is ciphered isn't whole
-    /// blocks.
+    /// There are fewer than 24 octets, CPL isn't their number less 2, CHL isn't 15 in hexadecimal, or what is ciphered
+    /// isn't whole blocks.
     Form,
     /// SPI, KIc or KID isn't of the profile, or KIc or KID names another keyset.
     UnknownAlgorithm,
