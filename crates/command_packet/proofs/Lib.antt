@@ -1,0 +1,2 @@
+pub mod SecuredLemmas
+pub mod CommandLemmas

@@ -1,0 +1,19 @@
+//! Command packets: the secured packets that go to a card.
+//!
+//! ETSI TS 102 225, 5.1. The profile: AES in CBC mode from a zero block, and a cryptographic checksum of 8 octets
+//! by CMAC with AES.
+#![tactic(auto)]
+
+mod building;
+pub mod fields;
+mod heads;
+mod opening;
+pub mod secured;
+
+pub use building::{build, build_in};
+pub use fields::PacketBuf;
+pub use heads::kvn_of;
+pub use opening::{Command, OpenErr, open};
+
+#[cfg(test)]
+mod tests;

@@ -1,0 +1,3 @@
+pub mod Response
+pub mod Opened
+pub mod Laws

@@ -1,0 +1,16 @@
+//! Response packets: what a card answers, and the status codes.
+//!
+//! ETSI TS 102 225, 5.2; 3GPP TS 31.115, 4.4. The profile: AES in CBC mode from a zero block, and a cryptographic
+//! checksum of 8 octets by CMAC with AES, or neither.
+#![tactic(auto)]
+
+mod answers;
+mod building;
+mod fronts;
+mod laws;
+mod opening;
+
+pub use answers::{Answer, AnswerErr, AnswerIn};
+pub use building::{build, build_plain};
+pub use laws::checksums_apart;
+pub use opening::{is_settling, open, open_in};
