@@ -14,3 +14,6 @@ pub use answers::{Answer, AnswerErr, AnswerIn};
 pub use building::{build, build_plain};
 pub use laws::checksums_apart;
 pub use opening::{is_settling, open, open_in};
+
+#[cfg(test)]
+mod tests;
