@@ -1,2 +1,4 @@
 pub mod Octets
 pub mod Steps
+pub mod Loops
+pub mod Opened

@@ -5,5 +5,13 @@
 #![tactic(auto)]
 
 mod appends;
+mod contents;
+mod headings;
+mod log_errors;
+mod logs;
+mod measures;
+mod walks;
 
 pub use appends::append;
+pub use log_errors::LogErr;
+pub use logs::{Log, open, records, sound_records};
