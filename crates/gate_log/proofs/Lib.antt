@@ -2,3 +2,4 @@ pub mod Octets
 pub mod Steps
 pub mod Loops
 pub mod Opened
+pub mod Made

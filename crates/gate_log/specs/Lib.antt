@@ -9,3 +9,4 @@ pub mod Making
 pub mod Answers
 pub mod Steps
 pub mod Opening
+pub mod Formatting

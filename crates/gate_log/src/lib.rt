@@ -6,6 +6,7 @@
 
 mod appends;
 mod contents;
+mod formats;
 mod headings;
 mod log_errors;
 mod logs;
@@ -13,5 +14,6 @@ mod measures;
 mod walks;
 
 pub use appends::append;
+pub use formats::format;
 pub use log_errors::LogErr;
 pub use logs::{Log, open, records, sound_records};
