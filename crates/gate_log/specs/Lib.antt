@@ -10,3 +10,4 @@ pub mod Answers
 pub mod Steps
 pub mod Opening
 pub mod Formatting
+pub mod Batches

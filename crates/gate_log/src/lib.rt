@@ -5,6 +5,7 @@
 #![tactic(auto)]
 
 mod appends;
+mod batches;
 mod contents;
 mod formats;
 mod headings;
@@ -14,6 +15,7 @@ mod measures;
 mod walks;
 
 pub use appends::append;
+pub use batches::Batch;
 pub use formats::format;
 pub use log_errors::LogErr;
 pub use logs::{Log, open, records, sound_records};
