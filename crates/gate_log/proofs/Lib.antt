@@ -3,3 +3,4 @@ pub mod Steps
 pub mod Loops
 pub mod Opened
 pub mod Made
+pub mod Appended

@@ -12,6 +12,7 @@ use Rattle.gate_log.specs.Append.{front_of, EndsClosed}
 use Rattle.gate_log.specs.Reading.{parts_from}
 use Rattle.gate_log.specs.Measures.{length-four, parts-written}
 use Rattle.gate_log.specs.Laws.{ends_in}
+use Rattle.gate_log.specs.Opening.{need_of}
 
 -- the parts, and how many more have room, and how many octets in them
 pub record BatchState : Type 0 where
@@ -104,6 +105,9 @@ framed_ends parts = ends_in (batch_octets parts) CLOSED (λ is. cc is)
 pub need-framed : (parts : List (List ℕ)) → 5 + sum_by (λ part. 4 + length part) parts ≡ 5 + 4 * length parts + octets_in parts
 need-framed [] = refl
 need-framed (part ∷ parts) = omega (arith, need-framed parts, sum_by-cons (λ (p : List ℕ). 4 + length p) part parts, sum_by-cons (λ (p : List ℕ). length p) part parts)
+
+pub framed-need : (parts : List (List ℕ)) → length (framed parts) ≡ need_of parts
+framed-need parts = length-framed parts ∙ sym (need-framed parts)
 
 -- ---- what the calls of a batch keep
 

@@ -3,6 +3,7 @@
 ghost use Rattle.std.specs.Prelude.{◌≡◌, ◌+◌, ◌-◌, ◌^◌, ◌<◌, ◌≤◌, [], ◌∷◌, ◌++◌, length, drop, vec_len, vec_capacity, IfOk};
 ghost use Rattle.std.specs.List.{flat_map};
 ghost use Rattle.gate_log.specs.Log.{four, part_octets};
+ghost use Rattle.gate_log.specs.Opening.{need_of};
 ghost use Rattle.gate_log.specs.Batches.{MOST_PARTS, MOST_OCTETS, octets_in, framed, with_part};
 
 use ota_core::Memory;
@@ -22,7 +23,8 @@ pub struct Batch {
 
 impl Model for Batch {
     ghost use Rattle.std.specs.Prelude.{vec_capacity};
-    ghost use Rattle.gate_log.specs.Batches.{BatchState, parts_framed, IsKept};
+    ghost use Rattle.gate_log.specs.Opening.{need_of};
+ghost use Rattle.gate_log.specs.Batches.{BatchState, parts_framed, IsKept};
 
     ghost Value = { BatchState };
 
@@ -77,6 +79,7 @@ impl Batch {
     pub(crate) fn framed(&self) -> &[u8]
         ensures octets { result.now ≡ framed self.now.parts }
         ensures small { length (flat_map part_octets self.now.parts) < 2 ^ 32 }
+        ensures need { length result.now ≡ need_of self.now.parts }
     {
         self.octets.as_slice()
     }

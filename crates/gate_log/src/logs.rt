@@ -1,12 +1,17 @@
 //! A log on a disk: how it is opened and read, and how batches are added.
 
-ghost use Rattle.std.specs.Prelude.{◌≡◌, ◌⊎◌, ℕ, ◌+◌, ◌^◌, ◌<◌, ◌≤◌, [], ◌++◌, length, List, IfOk, IfErr, OnOk, OnErr};
+ghost use Rattle.std.specs.Prelude.{◌≡◌, ◌⊎◌, ℕ, ◌+◌, ◌^◌, ◌<◌, ◌≤◌, [], ◌++◌, length, List, Err, IfOk, IfErr, OnOk, OnErr};
 ghost use Rattle.disk_model.specs.Disk.{Tells, image_now, DiskRun, Only};
 ghost use Rattle.gate_log.specs.Reading.{parts_of, OpensTo};
 ghost use Rattle.gate_log.specs.Reading.Reading.{Opened, Damaged};
 ghost use Rattle.gate_log.specs.Answers.{LogCause, UnlessFault, Answers, OpensAt, IsNotFull, IsOwn};
-ghost use Rattle.gate_log.specs.Opening.{OpensAlike, IsOpened, IsOpenLog};
+ghost use Rattle.gate_log.specs.Opening.{OpensAlike, IsOpened, IsOpenLog, AppendAnswer, AppendTicks, need_of};
+ghost use Rattle.gate_log.specs.Append.{opened_with};
+ghost use Rattle.gate_log.specs.Batches.{framed};
+ghost use Rattle.gate_log.specs.declared.log_errors.LogErr.TheVariants as log_err;
 
+use crate::appends::append;
+use crate::batches::Batch;
 use crate::contents::{cut_behind, read_all, read_synced};
 use crate::log_errors::LogErr;
 use crate::walks::find;
@@ -29,6 +34,54 @@ impl Model for Log {
     ghost view = { λ log. log.len };
 
     ghost invariant = { λ log. (11 ≤ log.len) × (log.len < 2 ^ 63) };
+}
+
+/// The greatest length of a log in octets.
+const LIMIT: u64 = 16_777_216;
+
+impl Log {
+    /// The log's length in octets.
+    pub fn length(&self) -> u64
+        ensures { result ≡ self.now }
+    {
+        self.len
+    }
+
+    /// Adds a batch of 1 to 16 parts, all or none. It takes no memory.
+    ///
+    /// The disk is as `open`, or the last `append` that answered Ok, left it for this log. A stop at any moment leaves
+    /// what opens to the parts so far, or to them and the whole batch; after Ok, to these. `Full` comes exactly where
+    /// the log would be longer than 16,777,216 octets, and nothing is changed. After a fault the log is opened again.
+    pub fn append<D: DiskCalls>(&mut self, disk: &mut D, batch: &Batch) -> Result<(), LogErr>
+        requires some { 1 ≤ length batch.now.parts }
+        requires few { length batch.now.parts ≤ 16 }
+        requires settled { Tells D.told disk.old → IsOpenLog D.told disk.old self.old }
+        ensures moments { Tells D.told disk.old → (head : List ℕ) (parts : List (List ℕ)) → parts_of head (D.told.seen disk.old) ≡ Opened parts []
+            → DiskRun D.told disk.old disk.new (λ image. OpensTo head parts image ⊎ OpensTo head (parts ++ batch.now.parts) image) }
+        ensures appended { Tells D.told disk.old → OnOk result ((head : List ℕ) (parts : List (List ℕ)) → parts_of head (D.told.seen disk.old) ≡ Opened parts []
+            → parts_of head (D.told.seen disk.new) ≡ Opened (parts ++ batch.now.parts) []) }
+        ensures content { Tells D.told disk.old → OnOk result (D.told.seen disk.new ≡ opened_with (D.told.seen disk.old) (framed batch.now.parts)) }
+        ensures settled { Tells D.told disk.old → OnOk result (IsOpenLog D.told disk.new self.new) }
+        ensures answer { AppendAnswer self.old (need_of batch.now.parts) result }
+        ensures unchanged { (size need : ℕ) → result ≡ Err (log_err.Full size need) → disk.new ≡ disk.old }
+        ensures length { OnOk result (self.new ≡ self.old + need_of batch.now.parts) }
+        ensures err { OnErr result (self.new ≡ self.old) }
+        ensures clock { Tells D.told disk.old → AppendTicks (D.told.clock disk.old) (D.told.clock disk.new) result }
+        ensures tells { D.told.tells disk.new ≡ D.told.tells disk.old }
+        ensures cause { LogCause (D.counts disk.old) (D.counts disk.new) result }
+    {
+        let framed = batch.framed();
+        let need = framed.len() as u64;
+        if self.len + need > LIMIT {
+            return Err(LogErr::Full {
+                length: self.len,
+                need,
+            });
+        }
+        append(disk, self.len, framed)?;
+        self.len += need;
+        Ok(())
+    }
 }
 
 /// Opens the log with this head.
