@@ -150,15 +150,17 @@ kept_put octets new part capacity held parts_room octets_room kept some room is 
     let small : length (flat_map part_octets more) < 2 ^ 32 = omega (arith, length-body more, sum, number, kept.held_is, kept.few, kept.short, room) in
     let parts_are : parts_framed new ≡ more = ap parts_framed written ∙ parts_framed-framed more small in
     let long : length new ≡ 5 + 4 * length more + octets_in more = ap length written ∙ length-framed more in
-    let same_sum : octets_in (parts_framed new) ≡ octets_in more = ap octets_in parts_are in
-    (record {
-      framed_is = written ∙ ap framed (sym parts_are);
-      held_is = omega (arith, ap length parts_are, number, kept.held_is);
-      long = omega (arith, long, number, kept.held_is, same_sum);
-      few = omega (arith, kept.few, some);
-      short = omega (arith, same_sum, sum, kept.short, room);
-      fits = omega (arith, long, number, sum, kept.held_is, kept.long, kept.fits, some, room);
-    }, parts_are)
+    let same_sum : octets_in (parts_framed new) ≡ octets_in more = ap octets_in parts_are in (
+      record {
+        framed_is = written ∙ ap framed (sym parts_are);
+        held_is = omega (arith, ap length parts_are, number, kept.held_is);
+        long = omega (arith, long, number, kept.held_is, same_sum);
+        few = omega (arith, kept.few, some);
+        short = omega (arith, same_sum, sum, kept.short, room);
+        fits = omega (arith, long, number, sum, kept.held_is, kept.long, kept.fits, some, room);
+      },
+      parts_are,
+    )
 
 -- the body of a batch is short enough for its length
 pub kept_small : (octets : List ℕ) (capacity held parts_room octets_room : ℕ) → IsKept octets capacity held parts_room octets_room → length (flat_map part_octets (parts_framed octets)) < 2 ^ 32

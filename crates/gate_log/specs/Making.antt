@@ -114,9 +114,11 @@ module _ (head : List ℕ) (nine : length head ≡ 9) where
       let rest = drop 1 octets in
       let rest_long : length rest ≡ 10 = omega (arith, long, length-drop 1 octets) in
       let head_is : take 9 rest ≡ head = (bytes_eq-Decides (take 9 rest) head).0 t.1 in
-      let gate : get_or rest 9 0 ≡ CLOSED = get_or-drop 1 octets 9 0 ∙ eqb-true (slice_index octets 10) 0 t.2 in
-      (long, sym (take_all 10 rest (omega (arith, rest_long))) ∙ take_more rest 9 0 (omega (arith, rest_long))
-      ∙ ap (λ (l : List ℕ). l ++ get_or rest 9 0 ∷ []) head_is ∙ ap (λ (g : ℕ). head ++ g ∷ []) gate)
+      let gate : get_or rest 9 0 ≡ CLOSED = get_or-drop 1 octets 9 0 ∙ eqb-true (slice_index octets 10) 0 t.2 in (
+        long,
+        sym (take_all 10 rest (omega (arith, rest_long))) ∙ take_more rest 9 0 (omega (arith, rest_long))
+            ∙ ap (λ (l : List ℕ). l ++ get_or rest 9 0 ∷ []) head_is ∙ ap (λ (g : ℕ). head ++ g ∷ []) gate,
+      )
 
   third_true : (a b c : Bool) → a ≡ false → b ≡ false → (a || b || c) ≡ true → c ≡ true
   third_true a b c e f g = rw (e, f) at g

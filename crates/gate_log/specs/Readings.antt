@@ -194,9 +194,11 @@ module _ (head octets : List ℕ) (parts : List (List ℕ)) (opened : parts_of h
 
   -- with a closed gate in the place of its own it is the same log
   pub opened_behind : (image : List ℕ) → IsClosedBehind (front_of octets) image → OpensTo head parts image
-  opened_behind image before =
-      (before.behind, ap (parts_of head) (before.is ∙ ap (λ (l : List ℕ). l ++ before.gate ∷ before.behind) front_is)
-      ∙ closed_again head octets parts [] (the_log) before.gate before.behind before.closed)
+  opened_behind image before = (
+    before.behind,
+    ap (parts_of head) (before.is ∙ ap (λ (l : List ℕ). l ++ before.gate ∷ before.behind) front_is)
+        ∙ closed_again head octets parts [] (the_log) before.gate before.behind before.closed,
+  )
 
   module _ (more : List (List ℕ)) (has : 0 < length more) (fits : length (flat_map part_octets more) < 2 ^ 32) where
     -- a batch that is appended is read behind its parts

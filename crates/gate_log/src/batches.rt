@@ -24,7 +24,7 @@ pub struct Batch {
 impl Model for Batch {
     ghost use Rattle.std.specs.Prelude.{vec_capacity};
     ghost use Rattle.gate_log.specs.Opening.{need_of};
-ghost use Rattle.gate_log.specs.Batches.{BatchState, parts_framed, IsKept};
+    ghost use Rattle.gate_log.specs.Batches.{BatchState, parts_framed, IsKept};
 
     ghost Value = { BatchState };
 

@@ -19,3 +19,6 @@ pub use batches::Batch;
 pub use formats::format;
 pub use log_errors::LogErr;
 pub use logs::{Log, open, records, sound_records};
+
+#[cfg(test)]
+mod tests;

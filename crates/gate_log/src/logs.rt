@@ -114,12 +114,23 @@ fn end_of(alloc: Global, octets: &[u8], head: &[u8; 9]) -> Result<usize, LogErr>
     let found = find(alloc, octets, head)?;
     match found.behind {
         Some(behind) => Ok(octets.len() - behind),
-        None => Err(LogErr::Damaged(found.parts.len() as u64 + 1)),
+        None => Err(damaged(&found.parts)),
     }
 }
 
+/// The refusal of a batch behind these parts.
+fn damaged(parts: &[Octets]) -> LogErr
+    ensures { result ≡ log_err.Damaged (length parts.now + 1) }
+{
+    LogErr::Damaged(parts.len() as u64 + 1)
+}
+
 /// The parts of a log, in order.
-pub fn records<D: DiskCalls>(alloc: Global, disk: &mut D, head: [u8; 9]) -> Result<Vec<Octets>, LogErr>
+pub fn records<D: DiskCalls>(
+    alloc: Global,
+    disk: &mut D,
+    head: [u8; 9],
+) -> Result<Vec<Octets>, LogErr>
     ensures answer { Tells D.told disk.old → Answers (λ parts. OpensTo head parts.items (D.told.seen disk.old)) (parts_of head (D.told.seen disk.old)) result }
     ensures content { Tells D.told disk.old → UnlessFault result (D.told.seen disk.new ≡ D.told.seen disk.old) }
     ensures moments { Tells D.told disk.old → DiskRun D.told disk.old disk.new (image_now D.told disk.old) }
@@ -131,12 +142,16 @@ pub fn records<D: DiskCalls>(alloc: Global, disk: &mut D, head: [u8; 9]) -> Resu
     let found = find(alloc, &octets, &head)?;
     match found.behind {
         Some(_) => Ok(found.parts),
-        None => Err(LogErr::Damaged(found.parts.len() as u64 + 1)),
+        None => Err(damaged(&found.parts)),
     }
 }
 
 /// The parts of a log up to the gate that ends it, or up to the first batch that is damaged.
-pub fn sound_records<D: DiskCalls>(alloc: Global, disk: &mut D, head: [u8; 9]) -> Result<Vec<Octets>, LogErr>
+pub fn sound_records<D: DiskCalls>(
+    alloc: Global,
+    disk: &mut D,
+    head: [u8; 9],
+) -> Result<Vec<Octets>, LogErr>
     ensures answer { Tells D.told disk.old → Answers (λ parts. OpensTo head parts.items (D.told.seen disk.old) ⊎ (parts_of head (D.told.seen disk.old) ≡ Damaged parts.items)) (parts_of head (D.told.seen disk.old)) result }
     ensures content { Tells D.told disk.old → UnlessFault result (D.told.seen disk.new ≡ D.told.seen disk.old) }
     ensures moments { Tells D.told disk.old → DiskRun D.told disk.old disk.new (image_now D.told disk.old) }

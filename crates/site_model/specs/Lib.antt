@@ -1,0 +1,4 @@
+pub mod Port
+pub mod Cards
+pub mod Runs
+pub mod Causes
