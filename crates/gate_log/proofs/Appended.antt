@@ -1,7 +1,7 @@
 -- What an append leaves.
-use Rattle.std.proofs.Common.{◌≡◌, ◌⊎◌, inl, ℕ, ◌+◌, ◌<◌, ◌≤◌, ◌^◌, List, [], ◌∷◌, ◌++◌, length, refl, sym, ◌∙◌, ap, subst, arith}
+use Rattle.std.proofs.Common.{◌≡◌, ◌⊎◌, inl, ℕ, ◌<◌, ◌≤◌, ◌^◌, List, [], ◌++◌, length, ◌∙◌, ap}
 use Rattle.std.specs.List.{flat_map}
-use Rattle.disk_model.specs.Disk.{Meaning, DiskRun, Only, image_now}
+use Rattle.disk_model.specs.Disk.{Meaning, DiskRun}
 use Rattle.disk_model.specs.Runs.{weaker, at_once}
 use Rattle.gate_log.specs.Log.{part_octets}
 use Rattle.gate_log.specs.Append.{IsSettled, IsBeforeOrAfter, opened_with}

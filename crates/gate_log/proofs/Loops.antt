@@ -1,9 +1,9 @@
 -- The steps of the loops over parts and batches.
-use Rattle.std.proofs.Common.{◌≡◌, ◌≢◌, ℕ, zero, suc, ◌+◌, ◌<◌, List, [], ◌∷◌, ◌++◌, length, drop, get_or, Option, Some, None, refl, sym, ◌∙◌, ap, subst, arith, append_assoc}
+use Rattle.std.proofs.Common.{◌≡◌, ◌≢◌, ℕ, ◌+◌, ◌<◌, List, [], ◌∷◌, ◌++◌, length, drop, get_or, Option, Some, None, refl, sym, ◌∙◌, ap, arith, append_assoc}
 use Rattle.std.specs.Option.{option_map}
 use Rattle.std.proofs.lemmas.List.{append-nil, length-drop, drop-drop}
 use Rattle.gate_log.specs.Log.{OPEN}
-use Rattle.gate_log.specs.Reading.{measured, parts_from, batch_of, Walk, behind_parts, walk_from}
+use Rattle.gate_log.specs.Reading.{measured, parts_from, batch_of, behind_parts, walk_from}
 use Rattle.gate_log.specs.Reading.Walk.{Ended, Broken}
 use Rattle.gate_log.specs.Measures.{parts_step, parts_none, parts_done, measured_some}
 use Rattle.gate_log.specs.Laws.{split_at}

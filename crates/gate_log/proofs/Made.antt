@@ -1,5 +1,5 @@
 -- What each step of the making of a log leaves.
-use Rattle.std.proofs.Common.{◌≡◌, ◌≢◌, ◌⊎◌, ℕ, ◌+◌, ◌-◌, ◌<◌, ◌≤◌, Bool, true, false, List, [], ◌∷◌, ◌++◌, length, get_or, take, drop, refl, inl, inr, sym, ◌∙◌, ap, subst, arith, append_assoc, length-append, length-take}
+use Rattle.std.proofs.Common.{◌≡◌, ◌≢◌, ◌⊎◌, ℕ, ◌+◌, ◌<◌, ◌≤◌, Bool, true, false, List, [], ◌∷◌, ◌++◌, length, take, drop, refl, inl, inr, sym, ◌∙◌, ap, subst, arith, length-take}
 use Rattle.std.specs.Prelude.{min, slice_index, nat_lt, ◌==◌, ◌||◌, ◌&&◌, not, if◌then◌else◌}
 use Rattle.std.specs.Str.{bytes_eq}
 use Rattle.std.proofs.lemmas.Bool.{le-ltb, ne_eqb, cases_lt}
@@ -13,7 +13,6 @@ use Rattle.gate_log.specs.Reading.{is_half_made, is_unformatted, is_log, heading
 use Rattle.gate_log.specs.Reading.Walk.{Ended, Broken}
 use Rattle.gate_log.specs.Formatting.{IsMade, IsBeforeOrNew, HasMark}
 use Rattle.gate_log.specs.Reading.Reading.{Unformatted}
-use Rattle.gate_log.specs.Laws.{split_at}
 use Rattle.gate_log.specs.Making.{IsNew, IsMarked, torn_mark, torn_last, marked_unformatted, cut_marked, torn_marked, cut_to_mark}
 
 -- ---- the first twelve octets say what all say

@@ -1,18 +1,17 @@
 -- What an opening leaves.
-use Rattle.std.proofs.Common.{◌≡◌, ◌⊎◌, ℕ, ◌+◌, ◌-◌, ◌≤◌, List, [], ◌++◌, length, take, drop, Option, Some, None, Result, Ok, Err, refl, inl, inr, sym, ◌∙◌, ap, subst, arith}
-use Rattle.std.proofs.lemmas.List.{length-take, take_all, take_rest}
-use Rattle.std.specs.Prelude.{IfSome, min}
+use Rattle.std.proofs.Common.{◌≡◌, ◌⊎◌, ℕ, ◌+◌, ◌-◌, ◌≤◌, List, [], length, take, drop, Option, Some, None, Ok, refl, inl, inr, ◌∙◌, ap, subst, arith}
+use Rattle.std.proofs.lemmas.List.{length-take, take_rest}
+use Rattle.std.specs.Prelude.{IfSome}
 use Rattle.disk_model.specs.Disk.{Meaning, DiskRun, Cut, Only, image_now}
 use Rattle.disk_model.specs.Runs.{joined, weaker}
 use Rattle.gate_log.specs.declared.headings.Heading.{Heading}
 use Rattle.gate_log.specs.declared.headings.Heading.TheVariants as heading
 use Rattle.gate_log.specs.declared.log_errors.LogErr.{LogErr}
 use Rattle.gate_log.specs.declared.log_errors.LogErr.TheVariants as log_err
-use Rattle.gate_log.specs.Reading.{parts_of, Walk, Reading, reading_with, reading_of_walk, walk_from, heading_of, OpensTo}
-use Rattle.gate_log.specs.Reading.Walk.{Ended, Broken}
-use Rattle.gate_log.specs.Reading.Reading.{Opened, Damaged}
+use Rattle.gate_log.specs.Reading.{parts_of, Reading, reading_with, reading_of_walk, walk_from, heading_of}
+use Rattle.gate_log.specs.Reading.Reading.{Opened}
 use Rattle.gate_log.specs.Readings.{cut_again, log_long}
-use Rattle.gate_log.specs.Answers.{Refuses, Answers, OpensAt, heading_answer, IsWantOrFault, IsNotFull, IsFound, IsRead}
+use Rattle.gate_log.specs.Answers.{Refuses, OpensAt, heading_answer, IsWantOrFault, IsNotFull, IsFound, IsRead}
 use Rattle.gate_log.specs.Opening.{OpensAlike, IsOpened, IsOpenLog}
 
 -- what wants memory or meets a fault says nothing of the octets

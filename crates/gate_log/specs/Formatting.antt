@@ -1,6 +1,6 @@
 -- What making a log leaves.
-use Rattle.std.specs.Prelude.{◌≡◌, ◌≢◌, ◌⊎◌, ℕ, ◌<◌, ◌≤◌, Bool, true, false, List, [], length, slice_index, Result, Ok, Err}
-use Rattle.disk_model.specs.Disk.{Meaning, image_now, Only}
+use Rattle.std.specs.Prelude.{◌≡◌, ◌≢◌, ◌⊎◌, ℕ, ◌<◌, Bool, true, false, List, [], length, slice_index, Result, Ok, Err}
+use Rattle.disk_model.specs.Disk.{Meaning, image_now}
 use Rattle.gate_log.specs.declared.log_errors.LogErr.{LogErr}
 use Rattle.gate_log.specs.declared.log_errors.LogErr.TheVariants as log_err
 use Rattle.gate_log.specs.Log.{log_octets}

@@ -1,8 +1,8 @@
 -- What an opening and an append make of a disk.
-use Rattle.std.specs.Prelude.{◌≡◌, ◌⊎◌, ℕ, ◌+◌, ◌-◌, ◌<◌, ◌≤◌, List, [], ◌++◌, length, take, Result, Ok, Err}
+use Rattle.std.specs.Prelude.{◌≡◌, ℕ, ◌+◌, ◌<◌, ◌≤◌, List, [], length, take, Result, Ok, Err}
 use Rattle.std.specs.List.{sum_by}
 use Rattle.disk_model.specs.declared.faults.DiskFault.TheVariants as fault
-use Rattle.disk_model.specs.Disk.{Meaning, image_now, Only, Cut}
+use Rattle.disk_model.specs.Disk.{Meaning, image_now, Only}
 use Rattle.gate_log.specs.declared.log_errors.LogErr.{LogErr}
 use Rattle.gate_log.specs.declared.log_errors.LogErr.TheVariants.{DiskFault, Full}
 use Rattle.gate_log.specs.Reading.{parts_of, OpensTo}

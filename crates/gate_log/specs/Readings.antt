@@ -1,22 +1,22 @@
 -- Laws of the reading of a log: what the octets in front of its first gate say, and what another end behind the same
 -- front opens to.
-use Rattle.std.specs.Prelude.{◌≡◌, ◌≢◌, ◌⊎◌, ℕ, zero, suc, ◌+◌, ◌-◌, ◌^◌, ◌<◌, ◌≤◌, ◌==◌, ◌&&◌, ◌||◌, not, nat_lt, Bool, true, false, cond, List, [], ◌∷◌, ◌++◌, length, take, drop, slice_index, refl}
+use Rattle.std.specs.Prelude.{◌≡◌, ◌≢◌, ◌⊎◌, ℕ, suc, ◌+◌, ◌-◌, ◌^◌, ◌<◌, ◌≤◌, ◌==◌, ◌&&◌, ◌||◌, not, nat_lt, Bool, true, false, cond, List, [], ◌∷◌, ◌++◌, length, take, drop, slice_index, refl}
 use Rattle.std.specs.List.{flat_map}
 use Rattle.std.specs.Str.{bytes_eq}
-use Rattle.std.proofs.Common.{inl, inr, get_or, sym, ◌∙◌, ap, subst, arith, append_assoc, length-append, length-take, length-drop, take-append-drop}
-use Rattle.std.proofs.lemmas.Bool.{ltb-false, le-ltb, eqb-true, eqb-false, eq-eqb}
-use Rattle.std.proofs.lemmas.List.{take_at, drop_at, take-append-le, take-take, drop-take, take_all, drop-append-le, append-nil}
+use Rattle.std.proofs.Common.{inl, inr, sym, ◌∙◌, ap, subst, arith, append_assoc, length-append, length-take, take-append-drop}
+use Rattle.std.proofs.lemmas.Bool.{ltb-false, le-ltb, eqb-true, eq-eqb}
+use Rattle.std.proofs.lemmas.List.{take_at, drop_at, take-take, drop-take, append-nil}
 use Rattle.std.proofs.Math.Seq.{take-append-add}
 use Rattle.std.proofs.lemmas.Slice.Eq.{bytes_eq-Decides}
 use Rattle.gate_log.specs.declared.headings.Heading.{Heading}
 use Rattle.gate_log.specs.declared.headings.Heading.TheVariants as heading
 use Rattle.gate_log.specs.Log.{OPEN, CLOSED, part_octets, batch_octets, IsClosedBehind}
 use Rattle.gate_log.specs.Append.{front_of, opened_with, EndsClosed, IsBeforeOrAfter}
-use Rattle.gate_log.specs.Reading.{is_half_made, is_unformatted, is_log, heading_of, Walk, behind_parts, walk_from, Reading, reading_of_walk, reading_with, parts_of, OpensTo}
+use Rattle.gate_log.specs.Reading.{is_half_made, is_unformatted, is_log, heading_of, Walk, behind_parts, walk_from, reading_of_walk, reading_with, parts_of, OpensTo}
 use Rattle.gate_log.specs.Reading.Walk.{Ended, Broken}
 use Rattle.gate_log.specs.Reading.Reading.{Opened}
 use Rattle.gate_log.specs.Laws.{ends_in}
-use Rattle.gate_log.specs.Walks.{behind_none, walk_closed, walk-written, split}
+use Rattle.gate_log.specs.Walks.{walk_closed, walk-written, split}
 
 -- ---- the heading
 

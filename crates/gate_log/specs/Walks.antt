@@ -7,7 +7,7 @@ use Rattle.std.proofs.lemmas.List.{take-append-le, drop_at}
 use Rattle.gate_log.specs.Log.{OPEN, four, part_octets, batch_octets}
 use Rattle.gate_log.specs.Reading.{batch_of, Walk, behind_parts, from_batch, walk_from}
 use Rattle.gate_log.specs.Reading.Walk.{Ended, Broken}
-use Rattle.gate_log.specs.Measures.{batch_like, is_batch_of, batch-written, length-four}
+use Rattle.gate_log.specs.Measures.{batch_like, batch-written, length-four}
 
 pub walk_skip : (skip : ℕ) (octets : List ℕ) → walk_from skip octets ≡ walk_from 0 (drop skip octets)
 unfolding walk_from

@@ -143,7 +143,10 @@ fn a_closed_gate_stays_as_it_stands(rt: HostRuntime) -> Result<(), Fail> {
     let octets = [0xA5, 0x4F, 0x54, 0x41, 0x4A, 1, 0, 0, 0, 1, 0x5A, 0xA5];
     let mut disk = MemDisk::of(alloc, &octets)?;
     assert_eq!(rt; opened(alloc, &mut disk), Ok(11));
-    assert_eq!(rt; disk.content(), [0xA5, 0x4F, 0x54, 0x41, 0x4A, 1, 0, 0, 0, 1, 0x5A].as_slice());
+    assert_eq!(rt;
+        disk.content(),
+        [0xA5, 0x4F, 0x54, 0x41, 0x4A, 1, 0, 0, 0, 1, 0x5A].as_slice()
+    );
     Ok(())
 }
 
@@ -161,14 +164,50 @@ fn what_is_no_log_is_refused(rt: HostRuntime) -> Result<(), Fail> {
     let unformatted = LogErr::Unformatted;
     assert!(rt; is_refused(alloc, &[], unformatted)?);
     assert!(rt; is_refused(alloc, &EMPTY[..10], unformatted)?);
-    assert!(rt; is_refused(alloc, &[0, 1, 2, 3, 4, 5, 6, 7, 8, 9, 10, 11, 12], unformatted)?);
-    assert!(rt; is_refused(alloc, &[0xFF, 0x4F, 0x54, 0x41, 0x4A, 1, 0, 0, 0, 1, 0], unformatted)?);
+    assert!(rt;
+        is_refused(
+            alloc,
+            &[0, 1, 2, 3, 4, 5, 6, 7, 8, 9, 10, 11, 12],
+            unformatted
+        )?
+    );
+    assert!(rt;
+        is_refused(
+            alloc,
+            &[0xFF, 0x4F, 0x54, 0x41, 0x4A, 1, 0, 0, 0, 1, 0],
+            unformatted
+        )?
+    );
     let other = LogErr::NotALog;
-    assert!(rt; is_refused(alloc, &[0xFF, 0x4F, 0x54, 0x41, 0x4A, 1, 0, 0, 0, 1, 1], other)?);
-    assert!(rt; is_refused(alloc, &[0xFF, 0x4F, 0x54, 0x41, 0x4A, 1, 0, 0, 0, 1, 0, 0], other)?);
-    assert!(rt; is_refused(alloc, &[0xA5, 0x4F, 0x54, 0x41, 0x4A, 2, 0, 0, 0, 1, 0], other)?);
+    assert!(rt;
+        is_refused(
+            alloc,
+            &[0xFF, 0x4F, 0x54, 0x41, 0x4A, 1, 0, 0, 0, 1, 1],
+            other
+        )?
+    );
+    assert!(rt;
+        is_refused(
+            alloc,
+            &[0xFF, 0x4F, 0x54, 0x41, 0x4A, 1, 0, 0, 0, 1, 0, 0],
+            other
+        )?
+    );
+    assert!(rt;
+        is_refused(
+            alloc,
+            &[0xA5, 0x4F, 0x54, 0x41, 0x4A, 2, 0, 0, 0, 1, 0],
+            other
+        )?
+    );
     let head = LogErr::OtherHead([0, 1, 0, 4]);
-    assert!(rt; is_refused(alloc, &[0xA5, 0x4F, 0x54, 0x41, 0x4A, 1, 0, 1, 0, 4, 0], head)?);
+    assert!(rt;
+        is_refused(
+            alloc,
+            &[0xA5, 0x4F, 0x54, 0x41, 0x4A, 1, 0, 1, 0, 4, 0],
+            head
+        )?
+    );
     Ok(())
 }
 
@@ -260,8 +299,14 @@ fn a_log_takes_what_has_room(rt: HostRuntime) -> Result<(), Fail> {
         length: 16_777_200,
         need: 17,
     };
-    assert_eq!(rt; put_one(alloc, &mut disk, &[1, 2, 3, 4, 5, 6, 7, 8]), Err(full));
-    assert_eq!(rt; put_one(alloc, &mut disk, &[1, 2, 3, 4, 5, 6, 7]), Ok(16_777_216));
+    assert_eq!(rt;
+        put_one(alloc, &mut disk, &[1, 2, 3, 4, 5, 6, 7, 8]),
+        Err(full)
+    );
+    assert_eq!(rt;
+        put_one(alloc, &mut disk, &[1, 2, 3, 4, 5, 6, 7]),
+        Ok(16_777_216)
+    );
     Ok(())
 }
 

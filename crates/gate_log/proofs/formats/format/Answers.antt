@@ -1,8 +1,6 @@
-use Rattle.std.proofs.Common.{◌≡◌, ℕ, List, length, arith, refl, inl, inr, sym, ◌∙◌, ap}
-use Rattle.disk_model.specs.Disk.{Reads}
+use Rattle.std.proofs.Common.{◌≡◌, refl, inl, inr, sym, ◌∙◌, ap}
 use Rattle.gate_log.specs.declared.headings.Heading.TheVariants as heading
 use Rattle.gate_log.specs.Reading.{heading_of, parts_of}
-use Rattle.gate_log.specs.Reading.Reading.{Unformatted}
 use Rattle.gate_log.proofs.Steps.{still_tells, looks}
 use Rattle.gate_log.proofs.Made.{read_heading, parts_by, made_by, format_run}
 use Rattle.gate_log.proofs.formats.format.Goals as goal

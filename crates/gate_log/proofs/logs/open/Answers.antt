@@ -1,10 +1,8 @@
 use Rattle.std.proofs.lemmas.Result.{err_from_is_err_and}
-use Rattle.std.proofs.Common.{◌≡◌, ◌⊎◌, ℕ, length, take, sym, ◌∙◌, ap, subst}
+use Rattle.std.proofs.Common.{◌≡◌, ℕ, length, take, ◌∙◌, ap, subst}
 use Rattle.std.proofs.Common.{List}
-use Rattle.disk_model.specs.Disk.{Only, image_now}
 use Rattle.gate_log.specs.Reading.{parts_of}
 use Rattle.gate_log.specs.Answers.{OpensAt}
-use Rattle.gate_log.specs.Opening.{IsOpened}
 use Rattle.gate_log.proofs.Steps.{still_tells}
 use Rattle.gate_log.proofs.Opened.{want_refuses, want_not_full, is_opened, opened_run, is_open_log}
 use Rattle.gate_log.proofs.logs.open.Goals as goal

@@ -1,5 +1,4 @@
-use Rattle.std.proofs.Common.{◌≡◌, ◌<◌, Option, Some, None, List, [], ◌∷◌, ◌++◌, ℕ, length, sym, ◌∙◌, ap, arith}
-use Rattle.gate_log.specs.Reading.{measured, parts_from}
+use Rattle.std.proofs.Common.{◌≡◌, ◌<◌, List, [], ◌∷◌, ◌++◌, ℕ, length, sym, ◌∙◌, ap, arith}
 use Rattle.gate_log.proofs.Loops.{more_parts, parts_turn, parts_smaller, parts_stop, parts_end}
 use Rattle.gate_log.proofs.measures.parts_in.Goals as goal
 

@@ -1,6 +1,4 @@
-use Rattle.std.proofs.Common.{◌≡◌}
 use Rattle.gate_log.specs.Steps.{IsStep}
-use Rattle.gate_log.specs.declared.walks.Step.{Step}
 use Rattle.gate_log.specs.declared.walks.Step.TheVariants.{Closed}
 use Rattle.gate_log.proofs.Loops.{turn_closed}
 use Rattle.gate_log.proofs.walks.walk.Goals as goal

@@ -1,5 +1,5 @@
-use Rattle.std.proofs.Common.{◌≡◌, ℕ, ◌+◌, ◌-◌, ◌*◌, ◌≤◌, List, length, ◌++◌, ◌∷◌, [], vec_len, vec_capacity, refl, ap, ◌∙◌, sym, arith}
-use Rattle.gate_log.specs.Batches.{BatchState, octets_in, parts_framed, framed, kept_empty, same_state, none_framed, framed-none}
+use Rattle.std.proofs.Common.{◌≡◌, ℕ, List, length, ◌++◌, ◌∷◌, [], vec_capacity, ap, ◌∙◌, sym, arith}
+use Rattle.gate_log.specs.Batches.{BatchState, octets_in, framed, kept_empty, same_state, none_framed, framed-none}
 use Rattle.gate_log.proofs.batches.Batch.clear.Goals as goal
 
 pub invariant_of-self : goal.invariant_of-self

@@ -1,4 +1,4 @@
-use Rattle.std.proofs.Common.{◌≡◌, ℕ, ◌-◌, ◌≤◌, length, vec_capacity, ap, ◌∙◌, sym, arith}
+use Rattle.std.proofs.Common.{ℕ, ◌-◌, ◌≤◌, length, vec_capacity, ap, ◌∙◌, arith}
 use Rattle.gate_log.specs.Batches.{BatchState, kept_put, kept_more, same_state}
 use Rattle.std.proofs.Common.{List, ◌++◌, ◌∷◌, []}
 use Rattle.gate_log.proofs.batches.Batch.put.Goals as goal

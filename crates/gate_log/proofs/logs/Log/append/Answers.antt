@@ -1,7 +1,6 @@
-use Rattle.std.proofs.Common.{◌≡◌, ℕ, ◌+◌, List, ◌++◌, length, sym, ◌∙◌, ap, subst}
+use Rattle.std.proofs.Common.{◌≡◌, ℕ, List, sym, ◌∙◌, ap, subst}
 use Rattle.disk_model.specs.Disk.{DiskRun}
 use Rattle.gate_log.specs.Append.{IsSettled, IsBeforeOrAfter, opened_with}
-use Rattle.gate_log.specs.Opening.{IsOpenLog}
 use Rattle.gate_log.specs.Batches.{framed}
 use Rattle.gate_log.proofs.Appended.{open_settled, append_run, append_opens, append_settled}
 use Rattle.gate_log.proofs.logs.Log.append.Goals as goal
