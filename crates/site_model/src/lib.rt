@@ -13,3 +13,6 @@ pub use departures::Departure;
 pub use port::Port;
 pub use site_faults::SiteFault;
 pub use sites::{Site, SiteCalls};
+
+#[cfg(test)]
+mod tests;
