@@ -1,17 +1,15 @@
 -- What a call of a disk in memory does to what the disk tells.
-use Rattle.std.proofs.Common.{◌≡◌, ◌⊎◌, inl, inr, ⊎_elim, ℕ, ◌+◌, ◌≤◌, ◌<◌, List, [], ◌∷◌, ◌++◌, length, take, refl, sym, ◌∙◌, ap, subst, arith, length-append, Result, Ok, Err}
+use Rattle.std.proofs.Common.{◌≡◌, ⊎_elim, ℕ, ◌+◌, ◌≤◌, ◌<◌, List, [], ◌∷◌, ◌++◌, length, take, refl, sym, ◌∙◌, ap, subst, arith, length-append, Result, Ok, Err}
 use Rattle.std.specs.Prelude.{Option, Some, None, OnOk}
 use Rattle.std.specs.Option.{option_map_or}
 use Rattle.std.proofs.lemmas.List.{take-append-le, take_all}
 use Rattle.std.proofs.lemmas.Bool.{cases_lt}
-use Rattle.disk_model.specs.Counts.{Counts, HasCause, HasRisen}
 use Rattle.disk_model.specs.Disk.{DiskRun, Ticks, Changes, Torn, Cut, Follows, Only, image_now}
 use Rattle.disk_model.specs.Writing.{torn-same, cut-same}
-use Rattle.disk_model.specs.Contents.{image_of}
-use Rattle.disk_model.specs.Effects.{Effect, Nothing, Writes, Cuts, Settles, place_in, changed, contents_after, images_after, IsImage}
+use Rattle.disk_model.specs.Effects.{Effect, Nothing, Writes, Cuts, Settles, place_in, changed, images_after, IsImage}
 use Rattle.disk_model.specs.EffectLaws.{are_images, image-is_image, contents_after_more, IsImage_more}
 use Rattle.disk_model.specs.ArmedCalls.{armed_at}
-use Rattle.disk_model.specs.MemDisk.{MemState, contents, next_call, failure_at, Steps, Wants, mem_told}
+use Rattle.disk_model.specs.MemDisk.{MemState, contents, next_call, failure_at, Steps, mem_told}
 use Rattle.disk_model.specs.declared.faults.DiskFault.{DiskFault}
 use Rattle.disk_model.specs.declared.faults.DiskFault.TheVariants.{Failed, Memory}
 use Rattle.disk_model.specs.declared.call_kinds.Call.{Call}

@@ -1,5 +1,5 @@
 -- What a disk in memory holds, in the three forms that a stop may leave.
-use Rattle.std.specs.Prelude.{ℕ, min, List, length, take, replicate}
+use Rattle.std.specs.Prelude.{ℕ, List, length, take, replicate}
 use Rattle.disk_model.specs.Disk.{overwritten}
 use Rattle.disk_model.specs.declared.images.Image.{Image}
 use Rattle.disk_model.specs.declared.images.Image.TheVariants.{Old, New, Torn}

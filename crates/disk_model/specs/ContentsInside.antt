@@ -1,5 +1,5 @@
 -- What the fields of a disk's contents stand for, and what holds of them.
-use Rattle.std.specs.Prelude.{◌≡◌, ◌≤◌, ℕ, length, take, vec_len, vec_capacity}
+use Rattle.std.specs.Prelude.{◌≡◌, ◌≤◌, take, vec_len, vec_capacity}
 use Rattle.disk_model.specs.Contents.{Contents}
 use Rattle.disk_model.specs.declared.disk_contents.DiskContents.TheInside.{Inside}
 

@@ -1,10 +1,10 @@
 -- Laws of the images: each of the three contents is one of them, and what one more effect adds.
-use Rattle.std.specs.Prelude.{◌≡◌, ◌+◌, ◌≤◌, ℕ, min, max, List, [], ◌∷◌, ◌++◌, length, take, drop, replicate, fold, refl}
-use Rattle.std.proofs.Common.{arith, sym, ◌∙◌, ap, subst, length-append, length-take}
-use Rattle.std.proofs.lemmas.List.{length-replicate, take_all, take-append-le}
+use Rattle.std.specs.Prelude.{◌≡◌, ◌≤◌, ℕ, List, [], ◌∷◌, ◌++◌, length, replicate, fold, refl}
+use Rattle.std.proofs.Common.{arith, subst, length-take}
+use Rattle.std.proofs.lemmas.List.{length-replicate}
 use Rattle.std.proofs.lemmas.List.Sums.{fold-append}
-use Rattle.disk_model.specs.Disk.{overwritten, Torn, Cut, Follows}
-use Rattle.disk_model.specs.Contents.{Contents, image_of, settled, written, cut_to}
+use Rattle.disk_model.specs.Disk.{overwritten, Torn}
+use Rattle.disk_model.specs.Contents.{Contents, image_of, settled}
 use Rattle.disk_model.specs.Effects.{Effect, Nothing, Writes, Cuts, Settles, place_in, changed, contents_after, images_after, images_from, IsImage}
 use Rattle.disk_model.specs.Writing.{length-overwritten, torn-overwritten, torn-same, cut-same, cut-take}
 use Rattle.disk_model.specs.declared.images.Image.{Image}

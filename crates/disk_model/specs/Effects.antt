@@ -4,7 +4,6 @@ use Rattle.std.specs.Prelude.{◌≡◌, ℕ, min, List, [], ◌∷◌, length, 
 use Rattle.disk_model.specs.Disk.{Torn, Cut, Follows}
 use Rattle.disk_model.specs.Contents.{Contents, image_of, settled, written, cut_to}
 use Rattle.disk_model.specs.declared.images.Image.{Image}
-use Rattle.disk_model.specs.declared.images.Image.TheVariants.{New}
 
 pub data Effect : Type 0 where
   Nothing : Effect

@@ -1,8 +1,8 @@
 -- How runs of disk calls go on, one after the other.
 use Rattle.std.specs.Prelude.{◌≡◌, ◌⊎◌, ◌≤◌, ℕ, List, refl}
-use Rattle.std.proofs.Common.{inl, inr, ⊎_elim, arith, sym, ◌∙◌, ap, subst}
+use Rattle.std.proofs.Common.{inl, inr, ⊎_elim, arith, ◌∙◌, ap, subst}
 use Rattle.std.proofs.lemmas.Bool.{cases_lt}
-use Rattle.disk_model.specs.Disk.{Meaning, DiskRun, Follows, Only, image_now}
+use Rattle.disk_model.specs.Disk.{Meaning, DiskRun, image_now}
 
 module _ {D B C : Type 0} (told : Meaning D B C) where
   -- before the first call

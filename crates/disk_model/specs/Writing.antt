@@ -1,7 +1,7 @@
 -- What a write leaves of the octets that were there.
-use Rattle.std.specs.Prelude.{◌≡◌, ◌+◌, ◌-◌, ◌≤◌, ℕ, min, max, List, ◌++◌, length, take, drop, refl}
-use Rattle.std.proofs.Common.{arith, sym, ◌∙◌, ap, subst, append_assoc, length-append, length-take, length-drop, take-append-drop}
-use Rattle.std.proofs.lemmas.List.{take-append-le, take_at, drop_at, take_all, drop_all, drop-drop, take-take, take_min}
+use Rattle.std.specs.Prelude.{◌≡◌, ◌+◌, ◌≤◌, ℕ, max, List, ◌++◌, length, take, drop, refl}
+use Rattle.std.proofs.Common.{arith, sym, ◌∙◌, ap, append_assoc, length-append, length-take, length-drop}
+use Rattle.std.proofs.lemmas.List.{take-append-le, take_at, drop_at, take_all, take-take, take_min}
 use Rattle.disk_model.specs.Disk.{overwritten, Torn, Cut}
 
 module _ (old : List ℕ) (at : ℕ) (octets : List ℕ) (within : at ≤ length old) where

@@ -3,17 +3,24 @@ ghost use Rattle.std.specs.Prelude.{◌≡◌, ◌≤◌, IsOk, MatchResult, OnO
 ghost use Rattle.disk_model.specs.Counts.{HasRisen};
 ghost use Rattle.disk_model.specs.Disk.{untold};
 
-use crate::real_file::{cut_file, file_len, read_file, sync_file, sync_folder, write_file};
+use crate::real_file::{
+    cut_file, file_len, open_to_write, read_file, read_from, sync_file, sync_folder, write_to,
+};
 use crate::{DiskCalls, DiskFault, Image, SimCalls};
+use std::fs::OpenFile;
 use std::io;
 use std::rt::Files;
 
-/// A real file as a disk. It holds a path, and opens the file for each call. It tells nothing of its octets, counts
-/// its failures, and answers each as `Failed`. A missing file is an empty disk, and a write to it creates it.
+/// A real file as a disk. It holds a path, and opens the file for each call unless it is to be kept open. It tells
+/// nothing of its octets, counts its failures, and answers each as `Failed`. A missing file is an empty disk, and a
+/// write to it creates it.
 #[derive(Drop)]
-pub struct FileDisk<R> {
+pub struct FileDisk<R: Files> {
     rt: R,
     path: String,
+    keeps_open: bool,
+    // The file, from its first write on, where it is kept open.
+    kept: Option<R::File>,
     // The file was created, and its name may not be on the disk yet.
     is_new: bool,
     faults: u64,
@@ -27,8 +34,25 @@ impl<R: Files + Drop> FileDisk<R> {
         FileDisk {
             rt,
             path,
+            keeps_open: false,
+            kept: None,
             is_new: false,
             faults: 0,
+        }
+    }
+
+    /// The same file, kept open from its first write on. It suits a few disks that are written often; without it many
+    /// disks need few open files.
+    pub fn keeping_open(self) -> FileDisk<R>
+        ensures { ⟦<FileDisk<R> as DiskCalls>⟧.counts result ≡ ⟦<FileDisk<R> as DiskCalls>⟧.counts self }
+    {
+        FileDisk {
+            rt: self.rt,
+            path: self.path,
+            keeps_open: true,
+            kept: self.kept,
+            is_new: self.is_new,
+            faults: self.faults,
         }
     }
 
@@ -48,18 +72,62 @@ impl<R: Files + Drop> FileDisk<R> {
         }
     }
 
+    fn size(&self) -> io::Result<u64> {
+        match &self.kept {
+            Some(file) => Ok(file.metadata()?.len()),
+            None => file_len(&self.rt, &self.path),
+        }
+    }
+
+    fn read(&mut self, at: u64, into: &mut [u8]) -> io::Result<usize>
+        ensures faults { self.new.faults ≡ self.old.faults }
+        ensures count { IfOk result (λ count. count ≤ length into.old) }
+    {
+        match &mut self.kept {
+            Some(file) => read_from(file, at, into),
+            None => read_file(&self.rt, &self.path, at, into),
+        }
+    }
+
     fn write(&mut self, at: u64, from: &[u8]) -> io::Result<()>
         ensures { self.new.faults ≡ self.old.faults }
     {
-        let is_created = write_file(&self.rt, &self.path, at, from)?;
-        self.is_new = self.is_new || is_created;
+        let mut file = self.writable()?;
+        write_to(&mut file, at, from)?;
+        if self.keeps_open {
+            self.kept = Some(file);
+        }
         Ok(())
+    }
+
+    // The file that was kept, or opened.
+    fn writable(&mut self) -> io::Result<R::File>
+        ensures { self.new.faults ≡ self.old.faults }
+    {
+        if let Some(file) = self.kept.take() {
+            return Ok(file);
+        }
+        let (file, is_created) = open_to_write(&self.rt, &self.path)?;
+        self.is_new = self.is_new || is_created;
+        Ok(file)
+    }
+
+    fn shorten(&mut self, len: u64) -> io::Result<()>
+        ensures { self.new.faults ≡ self.old.faults }
+    {
+        match &self.kept {
+            Some(file) => file.set_len(len),
+            None => cut_file(&self.rt, &self.path, len),
+        }
     }
 
     fn flush(&mut self) -> io::Result<()>
         ensures { self.new.faults ≡ self.old.faults }
     {
-        sync_file(&self.rt, &self.path)?;
+        match &self.kept {
+            Some(file) => file.sync_data()?,
+            None => sync_file(&self.rt, &self.path)?,
+        }
         if self.is_new {
             sync_folder(&self.rt, &self.path)?;
             self.is_new = false;
@@ -80,12 +148,12 @@ impl<R: Files + Drop> DiskCalls for FileDisk<R> {
     ghost seen_is_image = { λ disk told. tt };
 
     fn len(&mut self) -> Result<u64, DiskFault> {
-        let len = file_len(&self.rt, &self.path);
+        let len = self.size();
         self.answer(len)
     }
 
     fn read_at(&mut self, at: u64, into: &mut [u8]) -> Result<usize, DiskFault> {
-        let count = read_file(&self.rt, &self.path, at, into);
+        let count = self.read(at, into);
         self.answer(count)
     }
 
@@ -95,7 +163,7 @@ impl<R: Files + Drop> DiskCalls for FileDisk<R> {
     }
 
     fn cut(&mut self, len: u64) -> Result<(), DiskFault> {
-        let done = cut_file(&self.rt, &self.path, len);
+        let done = self.shorten(len);
         self.answer(done)
     }
 

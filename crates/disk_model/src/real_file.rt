@@ -1,4 +1,4 @@
-// The calls of a disk on a real file, which is opened for each. A missing file has no octets.
+// The calls of a disk on a real file. A missing file has no octets.
 ghost use Rattle.std.specs.Prelude.{◌≤◌, IfOk, length};
 
 use std::fs::{OpenFile, OpenOptions};
@@ -23,13 +23,17 @@ pub(crate) fn read_file<R: Files>(rt: &R, path: &str, at: u64, into: &mut [u8]) 
     let mut how = OpenOptions::new();
     how.read(true);
     match rt.open_file(&how, path) {
-        Ok(mut file) => {
-            file.seek(SeekFrom::Start(at))?;
-            read_up_to(&mut file, into)
-        }
+        Ok(mut file) => read_from(&mut file, at, into),
         Err(error) if is_missing(&error) => Ok(0),
         Err(error) => Err(error),
     }
+}
+
+pub(crate) fn read_from<F: Read + Seek>(file: &mut F, at: u64, into: &mut [u8]) -> io::Result<usize>
+    ensures { IfOk result (λ count. count ≤ length into.old) }
+{
+    file.seek(SeekFrom::Start(at))?;
+    read_up_to(file, into)
 }
 
 // Reads up to the end of the file, or as much as there is room for.
@@ -49,26 +53,21 @@ fn read_up_to<F: Read>(file: &mut F, into: &mut [u8]) -> io::Result<usize>
     Ok(count)
 }
 
-/// Says whether the file was created.
-pub(crate) fn write_file<R: Files>(rt: &R, path: &str, at: u64, from: &[u8]) -> io::Result<bool> {
+/// Opens the file, for reading too, and says whether it was created.
+pub(crate) fn open_to_write<R: Files>(rt: &R, path: &str) -> io::Result<(R::File, bool)> {
     let mut how = OpenOptions::new();
-    how.write(true);
+    how.read(true).write(true);
     match rt.open_file(&how, path) {
-        Ok(file) => {
-            write_to(file, at, from)?;
-            Ok(false)
-        }
+        Ok(file) => Ok((file, false)),
         Err(error) if is_missing(&error) => {
             how.create(true);
-            write_to(rt.open_file(&how, path)?, at, from)?;
-            Ok(true)
+            Ok((rt.open_file(&how, path)?, true))
         }
         Err(error) => Err(error),
     }
 }
 
-fn write_to<F: Write + Seek + Drop>(file: F, at: u64, from: &[u8]) -> io::Result<()> {
-    let mut file = file;
+pub(crate) fn write_to<F: Write + Seek>(file: &mut F, at: u64, from: &[u8]) -> io::Result<()> {
     file.seek(SeekFrom::Start(at))?;
     file.write_all(from)
 }

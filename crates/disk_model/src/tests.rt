@@ -110,21 +110,39 @@ fn count_shared<D: Disk>(disk: &mut D) -> Result<u64, DiskFault> {
     disk.len()
 }
 
+// What a disk over a real file does that isn't there before.
+fn is_disk<D: Disk>(disk: &mut D) -> Result<bool, DiskFault> {
+    let mut room = [0; 4];
+    let is_empty = disk.len()? == 0 && disk.read_at(0, &mut room)? == 0;
+    disk.sync()?;
+    disk.write_at(0, &[1, 2, 3, 4, 5])?;
+    disk.sync()?;
+    let is_long = disk.len()? == 5;
+    disk.write_at(1, &[22])?;
+    disk.cut(4)?;
+    let is_read = disk.read_at(1, &mut room)? == 3 && room == [22, 3, 4, 0];
+    disk.sync()?;
+    Ok(is_empty && is_long && is_read && disk.len()? == 4)
+}
+
 #[test]
 fn a_real_file_is_a_disk(rt: HostRuntime) -> Result<(), Fail> {
     let alloc = rt.alloc();
     let path = "disk_model_file.tmp";
     let mut disk = FileDisk::new(rt, String::from_str(alloc, path)?);
-    let mut room = [0; 4];
-    assert_eq!(rt; disk.len(), Ok(0));
-    assert_eq!(rt; disk.read_at(0, &mut room), Ok(0));
-    assert_eq!(rt; disk.sync(), Ok(()));
-    assert_eq!(rt; replace_all(&mut disk, &[1, 2, 3, 4, 5]), Ok(5));
-    assert_eq!(rt; disk.write_at(1, &[22]), Ok(()));
-    assert_eq!(rt; disk.cut(4), Ok(()));
-    assert_eq!(rt; disk.read_at(1, &mut room), Ok(3));
-    assert_eq!(rt; room, [22, 3, 4, 0]);
-    assert_eq!(rt; count_shared(&mut disk), Ok(4));
+    assert_eq!(rt; is_disk(&mut disk), Ok(true));
+    let octets = fs::read(&rt, path)?;
+    fs::remove_file(&rt, path)?;
+    assert_eq!(rt; octets.as_slice(), [1, 22, 3, 4].as_slice());
+    Ok(())
+}
+
+#[test]
+fn a_real_file_that_is_kept_open_is_a_disk(rt: HostRuntime) -> Result<(), Fail> {
+    let alloc = rt.alloc();
+    let path = "disk_model_kept_file.tmp";
+    let mut disk = FileDisk::new(rt, String::from_str(alloc, path)?).keeping_open();
+    assert_eq!(rt; is_disk(&mut disk), Ok(true));
     let octets = fs::read(&rt, path)?;
     fs::remove_file(&rt, path)?;
     assert_eq!(rt; octets.as_slice(), [1, 22, 3, 4].as_slice());

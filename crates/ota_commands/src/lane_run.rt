@@ -39,10 +39,10 @@ pub fn run_lane<D: DiskCalls>(
     requires distinct { IsTrue (are_distinct jobs.now) }
     requires few { length (entries_for plan.now jobs.now) ≤ 1000 }
     requires short { All IsShort (entries_for plan.now jobs.now) }
-    ensures first { result.history ≡ take (length result.history) (entries_for plan.now jobs.now) }
-    ensures legal { IsLegal result.history }
-    ensures all { OnOk result.added (result.history ≡ entries_for plan.now jobs.now) }
-    ensures added { Tells D.told disk.old → HasAdded D.told disk.old disk.new (entries_for plan.now jobs.now) result.history result.added }
+    ensures first { result.history.entries ≡ take (length result.history.entries) (entries_for plan.now jobs.now) }
+    ensures legal { IsLegal result.history.entries }
+    ensures all { OnOk result.added (result.history.entries ≡ entries_for plan.now jobs.now) }
+    ensures added { Tells D.told disk.old → HasAdded D.told disk.old disk.new (entries_for plan.now jobs.now) result.history.entries result.added }
     ensures tells { D.told.tells disk.new ≡ D.told.tells disk.old }
     ensures cause { JournalCause (D.counts disk.old) (D.counts disk.new) result.added }
 {

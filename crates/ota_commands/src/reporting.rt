@@ -22,7 +22,7 @@ pub enum Written {
 
 /// Writes the report of the jobs by the history of their lane.
 pub fn write_report<K: Sink>(alloc: Global, sink: &mut K, jobs: &[Job], history: History) -> Written
-    ensures text { IsTrue (K.tells sink.old) → IsWritten (report_of jobs.now (history ∷ [])) (K.written sink.old) (K.written sink.new) result }
+    ensures text { IsTrue (K.tells sink.old) → IsWritten (report_of jobs.now (history.entries ∷ [])) (K.written sink.old) (K.written sink.new) result }
     ensures cause { WriteCause (K.faults sink.old) (K.faults sink.new) result }
 {
     let histories = [history];

@@ -15,7 +15,7 @@ const LAST_COUNTER: u64 = 0xFF_FFFF_FFFE;
 pub fn session_history(alloc: Global, plan: &Plan, jobs: &[Job]) -> Result<History, Memory>
     requires one { AreOnOne jobs.now }
     requires distinct { IsTrue (are_distinct jobs.now) }
-    ensures { IfOk result (λ history. history ≡ entries_for plan.now jobs.now) }
+    ensures { IfOk result (λ history. history.entries ≡ entries_for plan.now jobs.now) }
 {
     match jobs {
         [] => Ok(History::new(alloc)),
@@ -34,7 +34,7 @@ fn opened_history(
 ) -> Result<History, Memory>
     requires on { AreOn keyset.now jobs.now }
     requires distinct { IsTrue (are_distinct jobs.now) }
-    ensures { IfOk result (λ history. history ≡ entry.Open 0 keyset.now facts.now ∷ reserves facts.now.base jobs.now) }
+    ensures { IfOk result (λ history. history.entries ≡ entry.Open 0 keyset.now facts.now ∷ reserves facts.now.base jobs.now) }
 {
     let entries = opened_and_reserved(alloc, keyset, facts, jobs)?;
     Ok(History::from_legal(entries))

@@ -1,16 +1,12 @@
 -- Laws above the definition of a legal history.
-use Rattle.std.proofs.Common.{◌≡◌, ℕ, ◌+◌, ◌≤◌, ◌<◌, nat_le, nat_eq, Bool, true, false, ◌==◌, ◌&&◌, ◌||◌, if◌then◌else◌, not, Option, Some, None, unwrap_or, List, [], ◌∷◌, ◌++◌, reverse, take, drop, length, refl, sym, ◌∙◌, ap, subst, arith, rules}
-use Rattle.std.specs.Option.{option_or}
+use Rattle.std.proofs.Common.{◌≡◌, ℕ, ◌<◌, true, false, ◌==◌, ◌&&◌, List, [], ◌∷◌, ◌++◌, reverse, take, drop, refl, arith}
 use Rattle.std.specs.List.{list_any}
 use Rattle.std.proofs.lemmas.Grind.{common_steps}
 use Rattle.std.proofs.lemmas.Bool.Decides.{nat_tests}
 use Rattle.std.proofs.lemmas.List.{reverse-append, take-append-drop}
 use Rattle.ota_core.specs.Keyset.{Keyset, is_same_keyset}
-use Rattle.ota_core.specs.Job.{is_same_job}
-use Rattle.ota_core.specs.Entry.{Reservation, is_open_of, is_close_of, counter_in, reservation_in, is_reserve_of, is_refusal_of, is_settlement_of}
-use Rattle.ota_core.specs.History.{first_some, unless, next_counter, last_reservation, broken_in_use, broken_counter, broken_job, broken_settlement, broken, IsLegalPast, IsLegal, broken_batch}
-use Rattle.ota_core.specs.declared.cards.CardId.{CardId}
-use Rattle.ota_core.specs.declared.jobs.JobId.{JobId}
+use Rattle.ota_core.specs.Entry.{Reservation, is_open_of, is_reserve_of}
+use Rattle.ota_core.specs.History.{next_counter, IsLegalPast, IsLegal}
 use Rattle.ota_core.specs.declared.entries.Entry.{Entry}
 use Rattle.ota_core.specs.declared.entries.Entry.TheVariants.{Open, Reserve, Done, Refused, Close}
 

@@ -1,6 +1,6 @@
 -- Which histories are legal. A rule speaks of the past of an entry: the entries before it, newest first.
-use Rattle.std.specs.Prelude.{◌≡◌, ℕ, ◌+◌, ◌≤◌, nat_le, Bool, true, false, ◌==◌, ◌&&◌, ◌||◌, if◌then◌else◌, not, Option, Some, None, unwrap_or, List, [], ◌∷◌, reverse, length, filter}
-use Rattle.std.specs.Option.{option_or, option_and_then}
+use Rattle.std.specs.Prelude.{◌≡◌, ℕ, ◌+◌, ◌≤◌, nat_le, Bool, ◌==◌, ◌||◌, if◌then◌else◌, not, Option, Some, None, unwrap_or, List, [], ◌∷◌, reverse, length, filter}
+use Rattle.std.specs.Option.{option_or}
 use Rattle.std.specs.List.{list_any, flat_map, filter_map}
 use Rattle.ota_core.specs.Keyset.{Keyset}
 use Rattle.ota_core.specs.Entry.{Reservation, is_open_of, is_close_of, counter_in, reservation_in, is_reserve_of, is_refusal_of, is_settlement_of}

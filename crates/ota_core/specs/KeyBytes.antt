@@ -1,4 +1,4 @@
-use Rattle.std.specs.Prelude.{◌≡◌, ℕ, ◌-◌, ◌==◌, ◌||◌, Bool, IsTrue, List, ◌++◌, length, take, drop, replicate}
+use Rattle.std.specs.Prelude.{◌≡◌, ℕ, ◌-◌, ◌==◌, ◌||◌, Bool, IsTrue, List, ◌++◌, length, take, replicate}
 
 -- the lengths of an AES key in octets (FIPS 197, 5)
 abbrev pub is_key_length : ℕ → Bool

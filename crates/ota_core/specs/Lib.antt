@@ -4,4 +4,6 @@ pub mod KeysetList
 pub mod Job
 pub mod Entry
 pub mod History
+pub mod HistoryValue
 pub mod Outcome
+pub mod Security

@@ -74,3 +74,6 @@ fn is_key_length(len: usize) -> bool
 {
     len == 16 || len == 24 || len == 32
 }
+
+#[cfg(test)]
+mod tests;

@@ -17,6 +17,7 @@ mod outcomes;
 mod past;
 mod references;
 mod rules;
+mod security;
 mod wants;
 
 pub use application::Tar;
@@ -30,4 +31,5 @@ pub use keysets::{KeysetFacts, KeysetId, KeysetList, Mode};
 pub use octet_string::{Octets, OctetsRoom};
 pub use outcomes::Outcome;
 pub use references::Reference;
+pub use security::{NotProfile, Spi, read_kic, read_kid, read_spi, write_key, write_spi};
 pub use wants::Memory;

@@ -74,3 +74,6 @@ impl OctetsRoom {
         }
     }
 }
+
+#[cfg(test)]
+mod tests;

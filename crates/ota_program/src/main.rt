@@ -36,7 +36,7 @@ fn run(rt: &HostRuntime) -> Result<Option<Fault>, AllocError> {
     let mut out = StdSink::new(io::writer(rt));
     let mut sites = Vec::new(alloc);
     let path = lane_file(rt, word(&words, 4), is_reserve(&words))?;
-    sites.push(FileDisk::new(rt.clone()?, path))?;
+    sites.push(FileDisk::new(rt.clone()?, path).keeping_open())?;
     let ended = plain_command(alloc, &words, &mut plan, &mut jobs, &mut out, sites);
     Ok(ended.fault)
 }

@@ -6,6 +6,7 @@ use Rattle.std.specs.Int.{bytes_high_first}
 use Rattle.hex.specs.Hex.{encode_lower}
 use Rattle.ota_core.specs.Keyset.{Keyset}
 use Rattle.ota_core.specs.History.{broken_in_use, next_counter, LAST_COUNTER}
+use Rattle.ota_core.specs.HistoryValue.{HistoryValue}
 use Rattle.ota_core.specs.Outcome.{outcome_of}
 use Rattle.ota_core.specs.declared.cards.CardId.{CardId}
 use Rattle.ota_core.specs.declared.jobs.Job.{Job}
@@ -56,6 +57,10 @@ job_text job = decimal job.id.job ++ codes "," ++ decimal job.keyset.card.0 ++ c
 -- the line of a job, by the history of its keyset's lane
 abbrev pub row_of : List Entry → Job → List ℕ
 row_of history job = job_text job ++ outcome_text (note_of job.keyset (reverse history)) (outcome_of history job.id) ++ codes "\n"
+
+-- the entries of a history
+abbrev pub entries_in : HistoryValue → List Entry
+entries_in history = history.entries
 
 -- the history of a card's lane: the card's number modulo the number of lanes
 abbrev pub history_of : List (List Entry) → CardId → List Entry

@@ -1,10 +1,10 @@
-ghost use Rattle.std.specs.Prelude.{◌≡◌, ◌<◌, ◌∷◌, [], ◌++◌, length, reverse, string_bytes, IfOk, OnOk, codes};
+ghost use Rattle.std.specs.Prelude.{◌≡◌, ◌<◌, ◌∷◌, [], ◌++◌, length, map, reverse, string_bytes, IfOk, OnOk, codes};
 ghost use Rattle.std.specs.Option.{option_copied};
 ghost use Rattle.hex.specs.Hex.{encode_lower};
 ghost use Rattle.ota_core.specs.Outcome.{settled_by, outcome_of};
 ghost use Rattle.reports.specs.Note.{note_text};
 ghost use Rattle.reports.specs.Lookup.{place_of};
-ghost use Rattle.reports.specs.Report.{report_of, header, unreserved, row_of, note_of, job_text, outcome_text, counter_text, answer_text, history_of};
+ghost use Rattle.reports.specs.Report.{report_of, header, unreserved, row_of, note_of, job_text, outcome_text, counter_text, answer_text, entries_in, history_of};
 
 use crate::lookup::{Note, last_reservation, settlement, unreserved_note};
 use ota_core::{Counter, Entry, History, Job, KeysetId, Memory};
@@ -16,7 +16,7 @@ use std::alloc::Global;
 /// the jobs. A job stands by the history of its keyset's lane.
 pub fn report_text(alloc: Global, jobs: &[Job], histories: &[History]) -> Result<String, Memory>
     requires { 0 < length histories.now }
-    ensures { IfOk result (λ text. string_bytes text ≡ report_of jobs.now histories.now) }
+    ensures { IfOk result (λ text. string_bytes text ≡ report_of jobs.now (map entries_in histories.now)) }
 {
     let mut text = String::from_str(alloc, header())?;
     for job in jobs {
@@ -35,7 +35,7 @@ fn header() -> &'static str
 
 fn history_of<'a>(histories: &'a [History], keyset: &KeysetId) -> &'a [Entry]
     requires { 0 < length histories.now }
-    ensures { result.now ≡ history_of histories.now keyset.now.card }
+    ensures { result.now ≡ history_of (map entries_in histories.now) keyset.now.card }
 {
     let lane = keyset.card.0 % histories.len() as u64;
     histories[lane as usize].entries()

@@ -1,25 +1,20 @@
 -- Cards and their logs.
-use Rattle.std.proofs.Common.{◌≡◌, ◌≢◌, ℕ, ◌+◌, ◌≤◌, ◌<◌, zero, suc, Bool, true, false, ◌==◌, ◌&&◌, ◌||◌, nat_le, nat_lt, if◌then◌else◌, not, ◌⊎◌, inl, inr, Option, Some, None, unwrap_or, List, [], ◌∷◌, ◌++◌, map, length, reverse, find, refl, sym, ◌∙◌, ap, subst, arith}
-use Rattle.std.specs.Option.{option_or, option_map, option_to_list}
-use Rattle.std.specs.List.{flat_map}
-use Rattle.std.specs.Str.{bytes_eq}
+use Rattle.std.proofs.Common.{◌≡◌, ℕ, ◌+◌, ◌≤◌, ◌<◌, Bool, true, false, ◌==◌, ◌&&◌, nat_le, nat_lt, if◌then◌else◌, ◌⊎◌, inl, inr, Option, Some, None, unwrap_or, List, [], ◌∷◌, ◌++◌, map, reverse, refl, sym, ◌∙◌, ap, subst, arith}
 use Rattle.std.proofs.lemmas.Grind.{common_steps}
-use Rattle.std.proofs.lemmas.Bool.{and_parts}
 use Rattle.std.proofs.lemmas.Bool.Decides.{nat_tests}
 use Rattle.std.proofs.lemmas.List.{reverse-append}
 use Rattle.ota_core.specs.Keyset.{Keyset, is_same_keyset}
 use Rattle.ota_core.specs.History.{first_some}
 use Rattle.ota_core.specs.declared.cards.CardId.{CardId}
-use Rattle.ota_core.specs.declared.cards.CardFacts.{CardFacts}
 use Rattle.ota_core.specs.declared.keysets.KeysetFacts.{KeysetFacts}
 use Rattle.ota_core.proofs.HistoryLemmas.{is_same_keyset-true, is_same_keyset-refl}
 use Rattle.world_core.specs.Members.{In}
 use Rattle.world_core.specs.Packet.{Packet}
-use Rattle.world_core.specs.Card.{CardState, is_card, find_card, log_of, logged, counter_of, stored_counter, facts_under, line_status, IsRisingPast, IsRising, IsLine, IsCardState}
-use Rattle.world_core.specs.Receiving.{is_next, is_other_key, is_below_level, status_under, status_by, status_of, is_taken, is_line_outcome}
+use Rattle.world_core.specs.Card.{CardState, is_card, find_card, log_of, logged, counter_of, stored_counter, facts_under, line_status, IsRisingPast, IsRising}
+use Rattle.world_core.specs.Receiving.{is_next, is_other_key, is_below_level, status_of, is_taken}
 use Rattle.world_core.specs.Headline.{all_lines}
 use Rattle.world_core.specs.declared.lines.Line.{Line}
-use Rattle.world_core.proofs.Basics.{In-left, In-right, In-cases, In-push_cases, In-push, In-reverse, In-from_reverse, In-flat_map, In-from_flat_map}
+use Rattle.world_core.proofs.Basics.{In-left, In-push_cases, In-push, In-reverse, In-from_reverse, In-flat_map, In-from_flat_map}
 
 true_not_false : true ≡ false → ⊥
 true_not_false e = cc

@@ -1,6 +1,6 @@
 -- A delivery keeps a world sound.
-use Rattle.std.proofs.Common.{◌≡◌, ◌≢◌, ℕ, ◌+◌, ◌≤◌, ◌<◌, zero, suc, Bool, true, false, ◌==◌, ◌&&◌, ◌||◌, if◌then◌else◌, not, ◌⊎◌, inl, inr, Option, Some, None, List, [], ◌∷◌, ◌++◌, map, length, slice_get, refl, sym, ◌∙◌, ap, subst, arith, append-nil, length-append}
-use Rattle.std.specs.Option.{option_map, option_and_then, option_to_list}
+use Rattle.std.proofs.Common.{◌≡◌, ◌≢◌, ℕ, ◌<◌, Bool, true, false, ◌==◌, ◌&&◌, ◌||◌, if◌then◌else◌, not, inl, inr, Option, Some, None, List, [], ◌∷◌, ◌++◌, length, slice_get, refl, sym, ◌∙◌, ap, subst, arith, append-nil, length-append}
+use Rattle.std.specs.Option.{option_and_then}
 use Rattle.std.specs.List.{list_all}
 use Rattle.std.proofs.lemmas.Grind.{common_steps}
 use Rattle.std.proofs.lemmas.Bool.{and_parts}
@@ -11,22 +11,22 @@ use Rattle.ota_core.specs.declared.entries.Entry.{Entry}
 use Rattle.ota_core.specs.declared.entries.Entry.TheVariants.{Reserve, Done, Refused}
 use Rattle.world_core.specs.Members.{In}
 use Rattle.world_core.specs.Packet.{Packet, packet_at, pieces_of}
-use Rattle.world_core.specs.Card.{CardState, is_card, find_card, log_of, logged, stored_counter, IsRising, IsLine, IsCardState, line_status}
+use Rattle.world_core.specs.Card.{CardState, find_card, log_of, logged, stored_counter, IsLine, IsCardState}
 use Rattle.world_core.specs.Receiving.{status_of, is_taken, is_line_outcome, may_make, line_of, answer_of, is_secured}
-use Rattle.world_core.specs.WorldState.{WorldState, written}
-use Rattle.world_core.specs.Condition.{refused_unless, is_piece_of, has_places, first_reservation, packet_if_whole, whole_packet, step_refusal, deliver_refusal}
+use Rattle.world_core.specs.WorldState.{WorldState}
+use Rattle.world_core.specs.Condition.{is_piece_of, has_places, first_reservation, packet_if_whole, whole_packet, step_refusal, deliver_refusal}
 use Rattle.world_core.specs.Effect.{stepped, line_by, answer_by, delivered}
-use Rattle.world_core.specs.Headline.{IsReserved, all_lines, HasLine, IsFinished, IsUnrun, IsTrueReport, LinesAreReserved, IsTrueAnswer, AnswersAreTrue, GivenWasMade}
-use Rattle.world_core.specs.Sound.{Differ, IsSound}
+use Rattle.world_core.specs.Headline.{IsTrueReport, IsTrueAnswer}
+use Rattle.world_core.specs.Sound.{IsSound}
 use Rattle.world_core.specs.declared.segments.Sent.{Sent}
 use Rattle.world_core.specs.declared.lines.Line.{Line}
 use Rattle.world_core.specs.declared.answers.Made.{Made}
 use Rattle.world_core.specs.declared.card_steps.CardStep.{CardStep}
 use Rattle.world_core.specs.declared.card_steps.CardStep.TheVariants as step
 use Rattle.world_core.specs.declared.refusals.NotAllowed.TheVariants as refusal
-use Rattle.world_core.proofs.Basics.{In-left, In-push_cases, In-push, slice_get-In, holds, and_then-some, map-some, or_cases}
+use Rattle.world_core.proofs.Basics.{In-push_cases, slice_get-In, holds, and_then-some, map-some}
 use Rattle.world_core.proofs.HistoryFacts.{packet_at-entry}
-use Rattle.world_core.proofs.CardLemmas.{with_lines, number_of, is_card-true, find_card-In, numbers-logged, logged-cases, log_of-logged, log_of-logged_new, all_lines-logged, stored_counter-above, IsRising-push, IsTaking, taking}
+use Rattle.world_core.proofs.CardLemmas.{with_lines, is_card-true, find_card-In, numbers-logged, logged-cases, log_of-logged, log_of-logged_new, all_lines-logged, stored_counter-above, IsRising-push, taking}
 use Rattle.world_core.proofs.Walks.{logged_nothing}
 
 -- a true report stays true when a log grows

@@ -1,7 +1,6 @@
 -- What holds of each sound world.
-use Rattle.std.proofs.Common.{◌≡◌, ◌≢◌, ℕ, ◌+◌, ◌≤◌, ◌<◌, zero, suc, Bool, true, false, ◌==◌, ◌&&◌, ◌||◌, nat_lt, if◌then◌else◌, not, ◌⊎◌, inl, inr, Option, Some, None, unwrap_or, List, [], ◌∷◌, ◌++◌, map, length, reverse, slice_get, take, drop, count_by, cond, add_comm, refl, sym, ◌∙◌, ap, subst, arith, append_assoc}
-use Rattle.std.specs.Option.{option_or, option_map, option_and_then}
-use Rattle.std.specs.List.{list_any, flat_map}
+use Rattle.std.proofs.Common.{◌≡◌, ℕ, ◌+◌, ◌≤◌, ◌<◌, zero, suc, Bool, true, false, ◌==◌, ◌&&◌, nat_lt, if◌then◌else◌, ◌⊎◌, inl, inr, Option, Some, None, unwrap_or, List, [], ◌∷◌, ◌++◌, map, reverse, slice_get, take, drop, count_by, cond, add_comm, refl, sym, ◌∙◌, ap, subst, arith, append_assoc}
+use Rattle.std.specs.List.{list_any}
 use Rattle.std.proofs.lemmas.Grind.{common_steps}
 use Rattle.std.proofs.lemmas.Bool.{and_parts, or_parts}
 use Rattle.std.proofs.lemmas.List.{reverse-append}
@@ -10,22 +9,21 @@ use Rattle.std.proofs.lemmas.List.Sums.{sum_by-append, sum_by-cons, sum_by_push}
 use Rattle.ota_core.specs.Keyset.{Keyset, is_same_keyset}
 use Rattle.ota_core.specs.Job.{is_same_job}
 use Rattle.ota_core.specs.Entry.{Reservation, reservation_in, is_reserve_of, is_refusal_of}
-use Rattle.ota_core.specs.History.{first_some, unless, last_reservation, next_counter, broken, broken_in_use, broken_counter, broken_job, IsLegalPast, IsLegal}
+use Rattle.ota_core.specs.History.{unless, last_reservation, next_counter, broken, broken_in_use, broken_counter, broken_job, IsLegalPast, IsLegal}
 use Rattle.ota_core.specs.declared.cards.CardFacts.{CardFacts}
 use Rattle.ota_core.specs.declared.jobs.JobId.{JobId}
 use Rattle.ota_core.specs.declared.entries.Illegal.TheVariants.{Exhausted, NotNext, JobTaken}
 use Rattle.ota_core.specs.declared.entries.Entry.{Entry}
 use Rattle.ota_core.specs.declared.entries.Entry.TheVariants.{Open, Reserve, Done, Refused, Close}
-use Rattle.ota_core.proofs.HistoryLemmas.{legal_past_behind, IsLegal-prefix, is_same_keyset-true, is_same_keyset-refl, is_same_place-true, reserved_below_next}
+use Rattle.ota_core.proofs.HistoryLemmas.{IsLegal-prefix, is_same_keyset-true, is_same_keyset-refl, is_same_place-true, reserved_below_next}
 use Rattle.world_core.specs.Members.{In}
-use Rattle.world_core.specs.Packet.{Packet, packet_at, reserved_by, reserved_at}
-use Rattle.world_core.specs.Card.{CardState, log_of, IsRisingPast, IsRising, IsLine, IsCardState}
-use Rattle.world_core.specs.WorldState.{WorldState, written, issued}
-use Rattle.world_core.specs.Headline.{IsReserved, OneCounter, all_lines, place_of, is_reserve_for, is_run_of, AtMostOnce, HasLine, IsUnrun, IsTrueReport, TrueReports, LinesAreReserved, LogsAreSound}
+use Rattle.world_core.specs.Packet.{reserved_at}
+use Rattle.world_core.specs.Card.{CardState, IsRisingPast, IsCardState}
+use Rattle.world_core.specs.WorldState.{WorldState, issued}
+use Rattle.world_core.specs.Headline.{OneCounter, all_lines, place_of, is_reserve_for, is_run_of, AtMostOnce}
 use Rattle.world_core.specs.Sound.{Differ, IsSound}
-use Rattle.world_core.specs.declared.segments.Sent.{Sent}
 use Rattle.world_core.specs.declared.lines.Line.{Line}
-use Rattle.world_core.proofs.Basics.{In-left, In-right, In-cases, In-reverse, In-from_reverse, In-map, In-from_flat_map, slice_get-In, list_any-In, list_any-from_In, or_cases, both_hold, and_then-some}
+use Rattle.world_core.proofs.Basics.{In-left, In-right, In-reverse, In-from_reverse, In-map, In-from_flat_map, list_any-In, list_any-from_In, both_hold}
 use Rattle.world_core.proofs.HistoryFacts.{packet_at-entry}
 use Rattle.world_core.proofs.CardLemmas.{number_of, log_of-In, IsRising-one_line}
 use Rattle.world_core.proofs.SoundLemmas.{legal_history}

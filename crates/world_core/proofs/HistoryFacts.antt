@@ -1,25 +1,18 @@
 -- What a legal history says, and what stays when it grows.
-use Rattle.std.proofs.Common.{◌≡◌, ◌≢◌, ℕ, ◌+◌, ◌≤◌, ◌<◌, zero, suc, Bool, true, false, ◌==◌, ◌&&◌, ◌||◌, if◌then◌else◌, not, ◌⊎◌, inl, inr, Option, Some, None, List, [], ◌∷◌, ◌++◌, length, reverse, slice_get, take, drop, refl, sym, ◌∙◌, ap, subst, arith, append_assoc}
-use Rattle.std.specs.Option.{option_or, option_map, option_and_then}
-use Rattle.std.specs.List.{list_any}
-use Rattle.std.proofs.lemmas.Grind.{common_steps}
-use Rattle.std.proofs.lemmas.Bool.{and_parts}
+use Rattle.std.proofs.Common.{◌≡◌, ℕ, Bool, true, false, ◌==◌, ◌||◌, ◌⊎◌, inl, inr, Some, None, List, [], ◌∷◌, ◌++◌, reverse, slice_get, refl, sym, ap, subst, arith, append_assoc}
 use Rattle.std.proofs.lemmas.Bool.Decides.{nat_tests}
 use Rattle.std.proofs.lemmas.List.{reverse-append}
-use Rattle.ota_core.specs.Keyset.{Keyset, is_same_keyset}
-use Rattle.ota_core.specs.Job.{is_same_job}
-use Rattle.ota_core.specs.Entry.{Reservation, facts_in, is_reserve_of, is_refusal_of, reservation_in}
-use Rattle.ota_core.specs.History.{first_some, unless, next_counter, last_reservation, broken, broken_batch, broken_status, broken_settlement, broken_in_use, broken_job, broken_counter, IsLegalPast, IsLegal}
-use Rattle.ota_core.proofs.HistoryLemmas.{legal_past_behind, IsLegal-prefix, is_same_keyset-true, is_same_keyset-refl, is_same_place-true, reserved_below_next}
+use Rattle.ota_core.specs.Keyset.{Keyset}
+use Rattle.ota_core.specs.Entry.{facts_in}
+use Rattle.ota_core.specs.History.{first_some, unless, broken, broken_batch, broken_status, broken_settlement, broken_in_use, IsLegalPast, IsLegal}
 use Rattle.ota_core.specs.declared.jobs.JobId.{JobId}
 use Rattle.ota_core.specs.declared.keysets.KeysetFacts.{KeysetFacts}
 use Rattle.ota_core.specs.declared.entries.Illegal.{Illegal}
 use Rattle.ota_core.specs.declared.entries.Entry.{Entry}
 use Rattle.ota_core.specs.declared.entries.Entry.TheVariants.{Open, Reserve, Done, Refused, Close}
 use Rattle.world_core.specs.Members.{In}
-use Rattle.world_core.specs.Packet.{Packet, packet_of, packet_at, reserved_by, reserved_at}
-use Rattle.world_core.specs.Headline.{is_reserve_for}
-use Rattle.world_core.proofs.Basics.{In-cases, In-reverse, slice_get-In, slice_get-left, first_some-left, both_hold, and_then-some, map-some, list_any-In, list_any-from_In, or_cases}
+use Rattle.world_core.specs.Packet.{Packet, packet_of, packet_at}
+use Rattle.world_core.proofs.Basics.{In-reverse, slice_get-left, first_some-left, both_hold, and_then-some, map-some, or_cases}
 
 -- a legal batch behind a legal past
 legal_batch : (past batch : List Entry) → IsLegalPast past → broken_batch past batch ≡ None → IsLegalPast (reverse batch ++ past)

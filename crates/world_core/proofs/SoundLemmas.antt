@@ -1,42 +1,34 @@
 -- Each event keeps a world sound.
-use Rattle.std.proofs.Common.{◌≡◌, ◌≢◌, ℕ, ◌+◌, ◌≤◌, ◌<◌, zero, suc, Bool, true, false, ◌==◌, ◌&&◌, ◌||◌, nat_le, nat_lt, if◌then◌else◌, not, ◌⊎◌, inl, inr, Option, Some, None, Result, Ok, Err, is_none, is_some, unwrap_or, List, [], ◌∷◌, ◌++◌, map, length, reverse, slice_get, refl, sym, ◌∙◌, ap, subst, arith, append-nil, length-append}
-use Rattle.std.specs.Option.{option_or, option_map, option_and_then, option_to_list}
-use Rattle.std.specs.List.{list_any, list_all, flat_map}
+use Rattle.std.proofs.Common.{◌≡◌, ◌≢◌, ℕ, ◌<◌, Bool, true, false, ◌==◌, ◌&&◌, nat_lt, ◌⊎◌, inl, inr, Option, Some, None, Result, Ok, Err, is_none, unwrap_or, List, [], ◌++◌, length, reverse, slice_get, refl, sym, ◌∙◌, subst, arith, append-nil}
+use Rattle.std.specs.Option.{option_map, option_to_list}
+use Rattle.std.specs.List.{list_all}
 use Rattle.std.specs.Str.{bytes_eq}
-use Rattle.std.proofs.lemmas.Grind.{common_steps}
 use Rattle.std.proofs.lemmas.Bool.{and_parts}
 use Rattle.std.proofs.lemmas.Bool.Decides.{nat_tests}
 use Rattle.std.proofs.lemmas.Slice.Eq.{bytes_eq-Decides}
 use Rattle.ota_core.specs.Keyset.{Keyset, is_same_keyset}
-use Rattle.ota_core.specs.Entry.{Reservation}
 use Rattle.ota_core.specs.History.{broken_batch, IsLegal}
-use Rattle.ota_core.specs.declared.cards.CardId.{CardId}
-use Rattle.ota_core.specs.declared.jobs.JobId.{JobId}
 use Rattle.ota_core.specs.declared.entries.Entry.{Entry}
 use Rattle.ota_core.specs.declared.entries.Entry.TheVariants.{Open, Reserve, Done, Refused, Close}
 use Rattle.ota_core.proofs.HistoryLemmas.{IsLegal-prefix, is_same_keyset-true}
 use Rattle.world_core.specs.Members.{In}
-use Rattle.world_core.specs.Packet.{Packet, packet_at, pieces_of}
-use Rattle.world_core.specs.Card.{CardState, is_card, find_card, log_of, logged, IsRising, IsLine, IsCardState, line_status}
-use Rattle.world_core.specs.Receiving.{status_of, is_taken, is_line_outcome, may_make, line_of, answer_of, is_secured}
+use Rattle.world_core.specs.Packet.{Packet, packet_at}
+use Rattle.world_core.specs.Card.{log_of}
 use Rattle.world_core.specs.WorldState.{WorldState, written}
-use Rattle.world_core.specs.Condition.{refused_unless, is_answer_with, passes, is_given, is_answered, begin_refusal, place_refusal, leave_refusal, is_piece_of, has_places, first_reservation, packet_if_whole, whole_packet, step_refusal, deliver_refusal, give_refusal, refusal_of, may_want_memory, IsAllowed}
-use Rattle.world_core.specs.Effect.{begun, sealed, piece_of, left, stepped, line_by, answer_by, delivered, gave, stopped, started, world_step}
+use Rattle.world_core.specs.Condition.{refused_unless, is_answer_with, passes, is_given, is_answered, begin_refusal, give_refusal, refusal_of, may_want_memory, IsAllowed}
+use Rattle.world_core.specs.Effect.{begun, piece_of, left, gave, stopped, started, world_step}
 use Rattle.world_core.specs.Run.{Answers}
-use Rattle.world_core.specs.Headline.{IsReserved, all_lines, HasLine, IsFinished, IsUnrun, IsTrueReport, TrueReports, LinesAreReserved, IsTrueAnswer, AnswersAreTrue, GivenWasMade}
-use Rattle.world_core.specs.Sound.{Differ, IsSound}
+use Rattle.world_core.specs.Headline.{IsReserved, HasLine, IsFinished, IsTrueReport}
+use Rattle.world_core.specs.Sound.{IsSound}
 use Rattle.world_core.specs.declared.segments.Sent.{Sent}
-use Rattle.world_core.specs.declared.lines.Line.{Line}
 use Rattle.world_core.specs.declared.answers.Made.{Made}
-use Rattle.world_core.specs.declared.card_steps.CardStep.{CardStep}
-use Rattle.world_core.specs.declared.card_steps.CardStep.TheVariants as step
 use Rattle.world_core.specs.declared.events.Event.{Event}
 use Rattle.world_core.specs.declared.events.Event.TheVariants as event
 use Rattle.world_core.specs.declared.refusals.NotAllowed.{NotAllowed}
 use Rattle.world_core.specs.declared.refusals.NotAllowed.TheVariants as refusal
-use Rattle.world_core.proofs.Basics.{In-left, In-right, In-cases, In-push_cases, In-push, slice_get-In, list_all-In, list_any-In, or_cases, both_hold, holds, none_before, is_none-true, and_then-some, map-some}
-use Rattle.world_core.proofs.HistoryFacts.{IsLegal-batch, packet_at-left, packet_at-entry, IsLegal-refusal}
-use Rattle.world_core.proofs.CardLemmas.{with_lines, number_of, is_card-true, find_card-In, numbers-logged, logged-cases, log_of-logged, log_of-logged_new, all_lines-logged, log_of-In, stored_counter-above, IsRising-push, IsTaking, taking}
+use Rattle.world_core.proofs.Basics.{In-left, In-cases, In-push_cases, slice_get-In, list_all-In, list_any-In, both_hold, holds, none_before}
+use Rattle.world_core.proofs.HistoryFacts.{IsLegal-batch, packet_at-left, IsLegal-refusal}
+use Rattle.world_core.proofs.CardLemmas.{log_of-In}
 use Rattle.world_core.proofs.DeliveryLemmas.{sound_delivered}
 
 -- the durable history of a sound world is legal

@@ -1,5 +1,5 @@
 -- What an event changes.
-use Rattle.std.specs.Prelude.{ℕ, Bool, true, false, if◌then◌else◌, Option, Some, None, unwrap_or, List, [], ◌∷◌, ◌++◌}
+use Rattle.std.specs.Prelude.{ℕ, Bool, true, false, if◌then◌else◌, Option, Some, None, List, [], ◌∷◌, ◌++◌}
 use Rattle.std.specs.Option.{option_map, option_and_then, option_to_list}
 use Rattle.ota_core.specs.declared.cards.CardId.{CardId}
 use Rattle.ota_core.specs.declared.entries.Entry.{Entry}

@@ -1,15 +1,10 @@
 -- What each world keeps.
-use Rattle.std.specs.Prelude.{◌≡◌, ◌≢◌, ℕ, Option, Some, List, [], ◌∷◌, map}
+use Rattle.std.specs.Prelude.{◌≢◌, List, [], ◌∷◌, map}
 use Rattle.ota_core.specs.History.{IsLegal}
 use Rattle.ota_core.specs.declared.cards.CardId.{CardId}
-use Rattle.ota_core.specs.declared.cards.CardFacts.{CardFacts}
-use Rattle.ota_core.specs.declared.entries.Entry.{Entry}
 use Rattle.world_core.specs.Members.{In}
-use Rattle.world_core.specs.Packet.{Packet, packet_at}
-use Rattle.world_core.specs.Card.{CardState, IsCardState}
 use Rattle.world_core.specs.WorldState.{WorldState, written}
 use Rattle.world_core.specs.Headline.{SentIsReserved, LogsAreSound, TrueReports, LinesAreReserved, AnswersAreTrue, GivenWasMade}
-use Rattle.world_core.specs.declared.segments.Sent.{Sent}
 
 -- the numbers differ
 abbrev pub Differ : List CardId → Type 0

@@ -22,9 +22,9 @@ impl Model for Journal {
 
     ghost Value = { JournalState };
 
-    ghost view = { λ j. record { history = take j.durable j.entries; batch = batch_of j.is_writing (drop j.durable j.entries) } };
+    ghost view = { λ j. record { history = take j.durable j.entries.entries; batch = batch_of j.is_writing (drop j.durable j.entries.entries) } };
 
-    ghost invariant = { λ j. IsJournal j.entries j.durable j.is_writing };
+    ghost invariant = { λ j. IsJournal j.entries.entries j.durable j.is_writing };
 }
 
 impl Journal {

@@ -1,4 +1,4 @@
-use Rattle.std.proofs.Common.{ℕ, List, ◌+◌, ◌≤◌, ◌≡◌, arith, ap, sym, ◌∙◌, length, take, min, replicate}
+use Rattle.std.proofs.Common.{ℕ, List, ◌≤◌, ◌≡◌, arith, ap, sym, ◌∙◌, length, take, min}
 use Rattle.std.proofs.lemmas.List.{length-replicate}
 use Rattle.disk_model.specs.Disk.{overwritten}
 use Rattle.disk_model.specs.Writing.{take-overwritten-le, same_before}

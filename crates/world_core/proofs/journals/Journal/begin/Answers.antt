@@ -1,7 +1,5 @@
-use Rattle.std.proofs.Common.{◌≡◌, ◌++◌, Some, reverse, take, drop, ap, inl, inr, arith}
-use Rattle.std.specs.Option.{option_map}
-use Rattle.ota_core.specs.History.{broken, broken_batch}
-use Rattle.world_core.specs.declared.refusals.NotAllowed.TheVariants.{Broken}
+use Rattle.std.proofs.Common.{◌≡◌, ◌++◌, reverse, take, drop, ap, inl, inr, arith}
+use Rattle.ota_core.specs.History.{broken_batch}
 use Rattle.world_core.proofs.Walks.{first_broken_of}
 use Rattle.world_core.proofs.journals.Journal.begin.Goals as goal
 

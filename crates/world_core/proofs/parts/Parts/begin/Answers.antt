@@ -1,4 +1,4 @@
-use Rattle.std.proofs.Common.{◌≡◌, refl, inl, arith}
+use Rattle.std.proofs.Common.{◌≡◌, inl, arith}
 use Rattle.std.proofs.lemmas.Grind.{common_steps}
 use Rattle.world_core.proofs.Walks.{discarded}
 use Rattle.world_core.proofs.parts.Parts.begin.Goals as goal

@@ -1,0 +1,13 @@
+use Rattle.std.proofs.Common.{ℕ, List, true, ap, ◌∙◌}
+use Rattle.file_records.specs.declared.file.File.{File}
+use Rattle.card_files.specs.Fresh.{with_new}
+use Rattle.card_files.proofs.TreeLemmas.{tree_of-updated, tree_of}
+use Rattle.card_files.proofs.fresh.add.Goals as goal
+
+pub returns : goal.returns
+unfolding with_new
+returns c =
+    let old = c.args.files.now.entries in
+    let file : File = record { remote = c.args.remote; active = true; contents = c.args.contents } in
+    tree_of-updated old c.insert.new.self.entries c.read.result file c.in_ok-insert.ensures.updates.0
+    ∙ ap (λ (path : List ℕ). with_new (tree_of old) path c.args.remote c.args.contents) c.read.ensures

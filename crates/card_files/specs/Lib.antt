@@ -1,0 +1,6 @@
+pub mod Commands
+pub mod Fresh
+pub mod Kind
+pub mod Path
+pub mod Replies
+pub mod State

@@ -1,0 +1,264 @@
+//! The files of a card by their paths.
+
+ghost use Rattle.std.specs.Prelude.{◌≡◌, ◌+◌, ◌^◌, ◌<◌, ◌≤◌, ◌-◌, ◌&&◌, min, nat_lt, nat_le, None, is_some, not, option_copied, IfSome, IfOk, OnErr};
+ghost use Rattle.std.specs.FinMap as map;
+ghost use Rattle.file_records.specs.File.{size_of};
+ghost use Rattle.card_files.specs.State.{total_of};
+ghost use Rattle.file_records.specs.Made.{Makes, MakesAndGives};
+
+use crate::limits::{FILES, FILES_ROOM};
+use crate::path::Path;
+use apdu_codec::Refusal;
+use arrayvec::ArrayVec;
+use file_records::{Contents, File};
+use ota_core::Memory;
+use std::alloc::Global;
+use std::collections::BTreeMap;
+use std::marker::Model;
+
+/// The files of a card by their paths, seen as a finite map.
+#[derive(Drop)]
+pub(crate) struct Tree {
+    files: BTreeMap<Path, File>,
+    taken: u64,
+}
+
+impl Model for Tree {
+    ghost use Rattle.std.specs.FinMap as map;
+    ghost use Rattle.std.specs.Coded.{coded_ℕ, coded_list};
+    ghost use Rattle.file_records.specs.contracts.file.File as file;
+    ghost use Rattle.std.specs.Prelude.{◌≡◌, ◌-◌, ◌^◌, min};
+    ghost use Rattle.card_files.specs.State.{Tree, total_of};
+
+    ghost Value = { Tree };
+
+    ghost coded = { map.code (coded_list coded_ℕ) file.the_row.coded };
+
+    ghost view = { λ tree. map.from_entries tree.files.entries };
+
+    ghost invariant = { λ tree. tree.taken ≡ min (total_of tree.files.entries) (2 ^ 64 - 1) };
+}
+
+impl Tree {
+    ghost use Rattle.file_records.specs.File.{binary_written, record_written, record_pushed, increased, marked};
+    ghost use Rattle.card_files.specs.Commands as command;
+    ghost use Rattle.card_files.specs.State.{room_of, is_remote_at, is_folder_at, is_ef_at, file_in, folder_in, ef_in, changed_at, changed_giving};
+
+    /// The files of a map.
+    pub(crate) fn of(files: BTreeMap<Path, File>) -> Tree
+        ensures { result ≡ map.from_entries files.entries }
+    {
+        let taken = total(&files);
+        Tree { files, taken }
+    }
+
+    /// The file with this path.
+    pub(crate) fn get(&self, path: &Path) -> Option<&File>
+        ensures { option_copied result ≡ map.get self.now path.now }
+    {
+        self.files.get(path)
+    }
+
+    /// Puts a file beside the others.
+    pub(crate) fn insert(&mut self, path: Path, file: File) -> Result<(), Memory>
+        requires { map.get self.old path ≡ None }
+        ensures ok { IfOk result (λ _. self.new ≡ map.insert self.old path file) }
+        ensures err { OnErr result (self.new ≡ self.old) }
+    {
+        let taken = self.taken.saturating_add(size(&file));
+        self.files.insert(path, file)?;
+        self.taken = taken;
+        Ok(())
+    }
+
+    /// Whether there is room for one more file of this size.
+    pub(crate) fn has_room(&self, size: u16) -> bool
+        ensures { result ≡ (nat_lt (map.len self.now) FILES && nat_le (room_of self.now + size) FILES_ROOM) }
+    {
+        let count = self.files.len();
+        let more = self.taken.saturating_add(u64::from(size));
+        fit(count, more)
+    }
+
+    /// Whether the path is that of a file that may be managed remotely.
+    pub(crate) fn is_remote(&self, path: &Path) -> bool
+        ensures { result ≡ is_remote_at self.now path.now }
+    {
+        match self.get(path) {
+            Some(file) => file.remote,
+            None => false,
+        }
+    }
+
+    /// Whether each file with this path or below it may be managed remotely.
+    pub(crate) fn all_remote(&self, path: &Path) -> bool
+        ensures { result ≡ command.all_remote self.now path.now }
+    {
+        self.files
+            .iter()
+            .all(|(other, file)| !path.holds(other) || file.remote)
+    }
+
+    /// Takes the files with this path or below it away.
+    pub(crate) fn remove(&mut self, path: &Path)
+        ensures { self.new ≡ map.retain_keys self.old (λ other. not (command.is_within path.now other)) }
+    {
+        self.files.retain(|other, _| !path.holds(other));
+        self.taken = total(&self.files);
+    }
+
+    /// Whether there is a file with this path.
+    pub(crate) fn contains(&self, path: &Path) -> bool
+        ensures { result ≡ is_some (map.get self.now path.now) }
+    {
+        self.get(path).is_some()
+    }
+
+    /// Whether the path is that of a folder.
+    pub(crate) fn is_folder(&self, path: &Path) -> bool
+        ensures { result ≡ is_folder_at self.now path.now }
+    {
+        match self.get(path) {
+            Some(file) => file.is_folder(),
+            None => false,
+        }
+    }
+
+    /// Whether the path is that of an EF.
+    pub(crate) fn is_ef(&self, path: &Path) -> bool
+        ensures { result ≡ is_ef_at self.now path.now }
+    {
+        match self.get(path) {
+            Some(file) => !file.is_folder(),
+            None => false,
+        }
+    }
+
+    /// The path of the file with this identifier in a folder.
+    pub(crate) fn file_in(&self, folder: &Path, id: u16) -> Option<Path>
+        ensures { result ≡ file_in self.now folder.now id }
+    {
+        match folder.child(id) {
+            Some(path) if self.contains(&path) => Some(path),
+            _ => None,
+        }
+    }
+
+    /// The path of the DF with this identifier in a folder.
+    pub(crate) fn folder_in(&self, folder: &Path, id: u16) -> Option<Path>
+        ensures { result ≡ folder_in self.now folder.now id }
+    {
+        match folder.child(id) {
+            Some(path) if self.is_folder(&path) => Some(path),
+            _ => None,
+        }
+    }
+
+    /// The path of the EF with this identifier in a folder.
+    pub(crate) fn ef_in(&self, folder: &Path, id: u16) -> Option<Path>
+        ensures { result ≡ ef_in self.now folder.now id }
+    {
+        match folder.child(id) {
+            Some(path) if self.is_ef(&path) => Some(path),
+            _ => None,
+        }
+    }
+
+    /// UPDATE BINARY of the file with this path.
+    pub(crate) fn write_binary(
+        &mut self,
+        path: &Path,
+        offset: usize,
+        new: &[u8],
+    ) -> Result<(), Refusal>
+        requires { offset < 2 ^ 16 }
+        ensures { Makes self.old self.new result (changed_at self.old path.now (λ file. binary_written file offset new.now)) }
+    {
+        let file = match self.files.get_mut(path) {
+            Some(file) => file,
+            None => return Err(Refusal::NoCurrentEf),
+        };
+        file.write_binary(offset, new)
+    }
+
+    /// UPDATE RECORD of the linear EF with this path.
+    pub(crate) fn write_record(
+        &mut self,
+        path: &Path,
+        number: u8,
+        new: &[u8],
+    ) -> Result<(), Refusal>
+        ensures { Makes self.old self.new result (changed_at self.old path.now (λ file. record_written file number new.now)) }
+    {
+        let file = match self.files.get_mut(path) {
+            Some(file) => file,
+            None => return Err(Refusal::NoCurrentEf),
+        };
+        file.write_record(number, new)
+    }
+
+    /// UPDATE RECORD of the cyclic EF with this path.
+    pub(crate) fn push_record(&mut self, path: &Path, new: &[u8]) -> Result<(), Refusal>
+        ensures { Makes self.old self.new result (changed_at self.old path.now (λ file. record_pushed file new.now)) }
+    {
+        let file = match self.files.get_mut(path) {
+            Some(file) => file,
+            None => return Err(Refusal::NoCurrentEf),
+        };
+        file.push_record(new)
+    }
+
+    /// ACTIVATE or DEACTIVATE of the file with this path.
+    pub(crate) fn mark(&mut self, path: &Path, active: bool) -> Result<(), Refusal>
+        ensures { Makes self.old self.new result (changed_at self.old path.now (marked active)) }
+    {
+        let file = match self.files.get_mut(path) {
+            Some(file) => file,
+            None => return Err(Refusal::NoCurrentEf),
+        };
+        file.mark(active)
+    }
+
+    /// INCREASE of the file with this path; it gives the octets of the sum.
+    pub(crate) fn increase(&mut self, path: &Path, by: u32) -> Result<ArrayVec<u8, 16>, Refusal>
+        requires { by < 2 ^ 24 }
+        ensures { MakesAndGives (λ row. row.items) self.old self.new result (changed_giving self.old path.now (λ file. increased file by)) }
+    {
+        let file = match self.files.get_mut(path) {
+            Some(file) => file,
+            None => return Err(Refusal::NoCurrentEf),
+        };
+        file.increase(by)
+    }
+}
+
+/// Whether so many files have a new one beside them, and their octets with its have room.
+fn fit(count: usize, octets: u64) -> bool
+    ensures { result ≡ (nat_lt count FILES && nat_le octets FILES_ROOM) }
+{
+    count < FILES && octets <= u64::from(FILES_ROOM)
+}
+
+/// What a file takes of the card's room.
+fn size(file: &File) -> u64
+    ensures { result ≡ size_of file.now }
+{
+    match &file.contents {
+        Contents::Folder => 0,
+        Contents::Transparent(binary) => binary.as_slice().len() as u64,
+        Contents::Linear(records) | Contents::Cyclic(records) => {
+            u64::from(records.width()) * u64::from(records.count())
+        }
+    }
+}
+
+/// The octets that all EFs hold, as far as 64 bits go.
+fn total(files: &BTreeMap<Path, File>) -> u64
+    ensures { result ≡ min (total_of files.now.entries) (2 ^ 64 - 1) }
+{
+    let mut total = 0u64;
+    for (_, file) in files.iter() {
+        total = total.saturating_add(size(file));
+    }
+    total
+}

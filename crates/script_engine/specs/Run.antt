@@ -1,0 +1,54 @@
+-- A whole script on a card. ETSI TS 102 226, 5.2.1.
+use Rattle.std.specs.Prelude.{◌≡◌, ℕ, zero, suc, ◌==◌, if◌then◌else◌, Option, Some, None, List, [], length}
+use Rattle.apdu_codec.specs.declared.refusal.TheConstants.{DONE}
+use Rattle.apdu_codec.specs.Reply.{Answer}
+use Rattle.card_files.specs.Fresh.{fresh_state}
+use Rattle.script_engine.specs.declared.card.CardState.{CardState}
+use Rattle.script_engine.specs.declared.part.Part.{Part}
+use Rattle.script_engine.specs.Step.{script_step}
+
+-- a new card
+abbrev pub fresh_card : CardState
+fresh_card = record { files = fresh_state }
+
+-- the card at the start of a script: the MF is selected, and no EF
+abbrev pub with_mf_selected : CardState → CardState
+with_mf_selected card = record card { files = record card.files { folder = []; ef = None } }
+
+-- how far a script has come: how many commands were executed, where the next one begins (none, where the
+-- script has ended), and the last answer with the card after it
+pub record Progress : Type 0 where
+  pub count : ℕ
+  pub next : Option ℕ
+  pub last : Answer CardState
+
+-- nothing was executed yet; a script without commands is answered 9000
+abbrev pub start : CardState → List ℕ → Progress
+start card script = record {
+  count = 0;
+  next = if length script == 0 then None else Some 0;
+  last = record { after = with_mf_selected card; sw = DONE; out = [] };
+}
+
+-- one command more, where the script hasn't ended
+abbrev pub advanced_from : Part → List ℕ → Progress → Option ℕ → Progress
+advanced_from part script progress None = progress
+advanced_from part script progress (Some at) =
+    let step = script_step progress.last.after part script at in
+    record { count = suc progress.count; next = step.1; last = step.0 }
+
+abbrev pub advanced : Part → List ℕ → Progress → Progress
+advanced part script progress = advanced_from part script progress progress.next
+
+-- the first commands of a script one after the other, as many as are said, or all
+abbrev pub runs : CardState → Part → List ℕ → ℕ → Progress
+runs card part script zero = start card script
+runs card part script (suc count) = advanced part script (runs card part script count)
+
+-- a script was run to its end: so many commands were executed, and this is the last answer
+abbrev pub HasRun : CardState → Part → List ℕ → ℕ → Answer CardState → Type 0
+HasRun card part script count last = runs card part script count ≡ record { count = count; next = None; last = last }
+
+-- some first commands of a script were run, and left the card so
+abbrev pub HasBegun : CardState → Part → List ℕ → CardState → Type 0
+HasBegun card part script after = (count : ℕ) × ((runs card part script count).last.after ≡ after)

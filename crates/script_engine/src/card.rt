@@ -1,0 +1,174 @@
+//! What a card holds, and scripts on it.
+
+ghost use Rattle.std.specs.Prelude.{◌≡◌, ◌+◌, ◌^◌, ◌<◌, ◌≤◌, ◌==◌, if◌then◌else◌, Some, None, length, IfOk, IfSome, OnErr};
+ghost use Rattle.apdu_codec.specs.Apdu.{data_len_of};
+ghost use Rattle.apdu_codec.specs.Reply.{answered};
+ghost use Rattle.script_engine.specs.Command.{file_command_of};
+ghost use Rattle.script_engine.specs.Step.{command_step, file_step, script_step, data_of, goes_on};
+
+use crate::command::FileCommand;
+use crate::part::Part;
+use crate::ran::Ran;
+use crate::step::Step;
+use apdu_codec::{Apdu, DONE, Next, Refusal, Reply, next_apdu};
+use arrayvec::ArrayVec;
+use card_files::Files;
+use ota_core::Memory;
+use std::alloc::Global;
+
+/// What a card holds, and what is selected.
+#[derive(Drop)]
+pub struct CardState {
+    files: Files,
+}
+
+impl CardState {
+    ghost use Rattle.script_engine.specs.Run.{fresh_card, with_mf_selected, HasRun, HasBegun};
+
+    /// A new card, with the MF selected.
+    pub fn fresh(alloc: Global) -> Result<CardState, Memory>
+        ensures { IfOk result (λ card. card ≡ fresh_card) }
+    {
+        let files = Files::fresh(alloc)?;
+        Ok(CardState { files })
+    }
+
+    /// The files.
+    pub fn files(&self) -> &Files
+        ensures { result.now ≡ self.now.files }
+    {
+        &self.files
+    }
+
+    /// Begins a script: selects the MF, and no EF.
+    pub fn begin_script(&mut self)
+        ensures { self.new ≡ with_mf_selected self.old }
+    {
+        self.files.select_mf();
+    }
+
+    /// Runs the command at the place `at` of a script. A rest that is no whole command is answered 6700.
+    ///
+    /// ETSI TS 102 226, 5.2.1; that a script ends at the first status word other than 9000 is this card's
+    /// own.
+    pub fn run_one(&mut self, part: Part, script: &[u8], at: u32) -> Result<Step, Memory>
+        requires within { at < length script.now }
+        requires fits { length script.now < 2 ^ 32 }
+        ensures step { IfOk result (λ step. (answered self.new step.reply, step.next) ≡ script_step self.old part script.now at) }
+        ensures forward { IfOk result (λ step. IfSome step.next (λ next. (at < next) × (next < length script.now))) }
+        ensures err { OnErr result (self.new ≡ self.old) }
+    {
+        match next_apdu(script, at) {
+            Next::Command(apdu, next) => {
+                let last = next as usize == script.len();
+                let octets = data_in(script, &apdu);
+                let reply = self.run_command(part, &apdu, last, octets)?;
+                let next = next_place(script, reply.sw, next);
+                Ok(Step { reply, next })
+            }
+            _ => Ok(Step {
+                reply: Reply::refused(Refusal::WrongLength),
+                next: None,
+            }),
+        }
+    }
+
+    /// Runs a whole script, with the MF selected at its start. Where memory is wanting, the commands before
+    /// that stand.
+    ///
+    /// ETSI TS 102 226, 5.2.1.
+    pub fn run_script(&mut self, part: Part, script: &[u8]) -> Result<Ran, Memory>
+        requires { length script.now < 2 ^ 32 }
+        ensures ran { IfOk result (λ ran. HasRun self.old part script.now ran.count (answered self.new ran.reply)) }
+        ensures memory { OnErr result (HasBegun self.old part script.now self.new) }
+    {
+        self.begin_script();
+        let mut ran = Ran {
+            count: 0,
+            reply: Reply::done(ArrayVec::new()),
+        };
+        let mut next = first(script);
+        loop {
+            let at = match next {
+                Some(at) => at,
+                None => return Ok(ran),
+            };
+            let step = self.run_one(part, script, at)?;
+            ran = Ran {
+                count: ran.count + 1,
+                reply: step.reply,
+            };
+            next = step.next;
+        }
+    }
+
+    /// Runs a command of a part, which is the last one of its script or not.
+    fn run_command(
+        &mut self,
+        part: Part,
+        apdu: &Apdu,
+        last: bool,
+        octets: &[u8],
+    ) -> Result<Reply, Memory>
+        requires { length octets.now ≡ data_len_of apdu.now.ins apdu.now.p3 }
+        ensures answer { IfOk result (λ reply. answered self.new reply ≡ command_step self.old part apdu.now last octets.now) }
+        ensures err { OnErr result (self.new ≡ self.old) }
+    {
+        match part {
+            Part::Files => self.run_file_command(apdu, last, octets),
+            Part::Applets => Ok(Reply::refused(Refusal::UnknownInstruction)),
+        }
+    }
+
+    /// Runs a command on the files.
+    fn run_file_command(&mut self, apdu: &Apdu, last: bool, octets: &[u8]) -> Result<Reply, Memory>
+        requires { length octets.now ≡ data_len_of apdu.now.ins apdu.now.p3 }
+        ensures answer { IfOk result (λ reply. answered self.new reply ≡ file_step self.old apdu.now last octets.now (file_command_of apdu.now.ins)) }
+        ensures err { OnErr result (self.new ≡ self.old) }
+    {
+        let command = match FileCommand::of(apdu.ins) {
+            Some(command) => command,
+            None => return Ok(Reply::refused(Refusal::UnknownInstruction)),
+        };
+        if apdu.cla != command.class() {
+            return Ok(Reply::refused(Refusal::UnknownClass));
+        }
+        if command.is_output() && !last {
+            return Ok(Reply::refused(Refusal::ConditionsNotMet));
+        }
+        command.run(&mut self.files, apdu.p1, apdu.p2, apdu.p3, octets)
+    }
+}
+
+/// The data of a command.
+fn data_in<'a>(script: &'a [u8], apdu: &Apdu) -> &'a [u8]
+    requires { apdu.now.from + apdu.now.len ≤ length script.now }
+    ensures value { result.now ≡ data_of script.now apdu.now }
+    ensures len { length result.now ≡ apdu.now.len }
+{
+    let from = apdu.from as usize;
+    &script[from..from + apdu.len as usize]
+}
+
+/// Where a script begins; none, where it has no octets.
+fn first(script: &[u8]) -> Option<u32>
+    ensures { result ≡ (if length script.now == 0 then None else Some 0) }
+{
+    if script.is_empty() { None } else { Some(0) }
+}
+
+/// Where a script goes on whose next command would begin at `next`.
+fn next_place(script: &[u8], sw: u16, next: u32) -> Option<u32>
+    requires { next ≤ length script.now }
+    ensures value { result ≡ goes_on script.now sw next }
+    ensures within { IfSome result (λ at. (at ≡ next) × (at < length script.now)) }
+{
+    if sw == DONE && (next as usize) < script.len() {
+        Some(next)
+    } else {
+        None
+    }
+}
+
+#[cfg(test)]
+mod tests;

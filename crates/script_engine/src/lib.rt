@@ -1,0 +1,15 @@
+//! Scripts on a card: their commands one after the other.
+//!
+//! ETSI TS 102 226, 5.2.1.
+#![tactic(auto)]
+
+mod card;
+mod command;
+mod part;
+mod ran;
+mod step;
+
+pub use card::CardState;
+pub use part::Part;
+pub use ran::Ran;
+pub use step::Step;
