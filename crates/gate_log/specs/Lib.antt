@@ -11,3 +11,4 @@ pub mod Steps
 pub mod Opening
 pub mod Formatting
 pub mod Batches
+pub mod Spelled

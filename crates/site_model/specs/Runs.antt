@@ -44,6 +44,20 @@ module _ {D B C : Type 0} (told : Meaning D B C) where
         (holds image choice (run.each k image low high at) (run.choices_stand k choice low high chosen));
   }
 
+  -- a port's run is one of the site
+  pub of_port : (old new : D) (Q : B → Type 0) (R : List ℕ → B → C → Type 0) → PortRun old new Q
+      → ((k : ℕ) (image : List ℕ) (choice : C) → told.clock old ≤ k → k ≤ told.clock new → image_now told old image → Q (told.beside_at new k) → told.choice_at new k choice → R image (told.beside_at new k) choice)
+      → SiteRun old new R
+  of_port old new Q R run holds = record {
+    later = run.later;
+    no_more = run.no_more;
+    no_fewer = run.no_fewer;
+    past = run.past;
+    no_more_choices = run.no_more_choices;
+    no_fewer_choices = run.no_fewer_choices;
+    each = λ k image choice low high at chosen. holds k image choice low high (run.images_stand k image low high at) (run.each k low high) chosen;
+  }
+
   -- what follows from R holds too
   pub weaker_site : (old new : D) (R S : List ℕ → B → C → Type 0) → SiteRun old new R → ((image : List ℕ) (beside : B) (choice : C) → R image beside choice → S image beside choice) → SiteRun old new S
   weaker_site old new R S run then_s = record {
