@@ -1,2 +1,6 @@
 pub mod Octets
 pub mod Steps
+pub mod Loops
+pub mod Opened
+pub mod Made
+pub mod Appended

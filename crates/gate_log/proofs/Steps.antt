@@ -2,7 +2,8 @@
 use Rattle.std.proofs.Common.{◌≡◌, ℕ, List, IsTrue, Result, Ok, Err, OnOk, sym, subst}
 use Rattle.disk_model.specs.declared.faults.DiskFault.{DiskFault}
 use Rattle.disk_model.specs.declared.faults.DiskFault.TheVariants.{Failed, Memory}
-use Rattle.disk_model.specs.Disk.{Meaning, Tells, Changes, Only, image_now}
+use Rattle.disk_model.specs.Disk.{Meaning, Tells, Changes, Only, image_now, DiskRun}
+use Rattle.disk_model.specs.Runs.{joined, weaker, left_now}
 
 module _ {D B C : Type 0} (told : Meaning D B C) where
   -- a disk that told still does
@@ -25,3 +26,14 @@ both_ok (Err error) p q then_r = tt
 pub one_ok : {T E : Type 0} {P R : Type 0} (result : Result T E) → OnOk result P → (P → R) → OnOk result R
 one_ok (Ok value) p then_r = then_r p
 one_ok (Err error) p then_r = tt
+
+module _ {D B C : Type 0} (told : Meaning D B C) where
+  -- calls that only look, one after the other
+  pub looks : (old mid new : D) → DiskRun told old mid (image_now told old) → DiskRun told mid new (image_now told mid) → DiskRun told old new (image_now told old)
+  looks old mid new first second =
+      joined told old mid new (image_now told old) first
+      (weaker told mid new (image_now told mid) (image_now told old) second (left_now told old mid (image_now told old) first))
+
+  -- what a stop leaves is left too after calls that only look
+  pub still_only : (old new : D) (octets : List ℕ) → Only octets (image_now told old) → DiskRun told old new (image_now told old) → Only octets (image_now told new)
+  still_only old new octets only run = λ image now. only image (left_now told old new (image_now told old) run image now)

@@ -1,3 +1,14 @@
 pub mod Log
 pub mod Append
 pub mod Laws
+pub mod Reading
+pub mod Measures
+pub mod Walks
+pub mod Readings
+pub mod Making
+pub mod Answers
+pub mod Steps
+pub mod Opening
+pub mod Formatting
+pub mod Batches
+pub mod Spelled

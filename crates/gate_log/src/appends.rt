@@ -29,7 +29,11 @@ pub fn append<D: DiskCalls>(disk: &mut D, len: u64, framed: &[u8]) -> Result<(),
 }
 
 /// Writes octets and syncs them.
-fn write_through<D: DiskCalls>(disk: &mut D, at: u64, from: &[u8]) -> Result<(), DiskFault>
+pub(crate) fn write_through<D: DiskCalls>(
+    disk: &mut D,
+    at: u64,
+    from: &[u8],
+) -> Result<(), DiskFault>
     requires { Tells D.told disk.old → at ≤ length (D.told.seen disk.old) }
     ensures moments { Tells D.told disk.old → DiskRun D.told disk.old disk.new (Follows (Torn at (length from.now)) (image_now D.told disk.old)) }
     ensures content { Tells D.told disk.old → OnOk result (D.told.seen disk.new ≡ overwritten (D.told.seen disk.old) at from.now) }

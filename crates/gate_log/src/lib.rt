@@ -5,5 +5,22 @@
 #![tactic(auto)]
 
 mod appends;
+mod batches;
+mod contents;
+mod formats;
+mod headings;
+mod laws;
+mod log_errors;
+mod logs;
+mod measures;
+mod walks;
 
 pub use appends::append;
+pub use batches::Batch;
+pub use formats::format;
+pub use laws::spelled_logs_open;
+pub use log_errors::LogErr;
+pub use logs::{Log, open, records, sound_records};
+
+#[cfg(test)]
+mod tests;

@@ -1,0 +1,21 @@
+use Rattle.std.proofs.Common.{◌≡◌, ◌∙◌, ap, refl, length}
+use Rattle.disk_model.specs.Disk.{Torn, Cut}
+use Rattle.disk_model.specs.Writing.{torn-same, cut-same}
+use Rattle.site_model.specs.Moments.{moments_after}
+use Rattle.site_model.specs.Bare.{now_pair}
+use Rattle.site_model.proofs.Calls.{call_run, stood_run, call_ticks, follows_pair}
+use Rattle.site_model.proofs.bare_site.BareSiteDiskCalls.read_at.Goals as goal
+
+pub returns-clause-moments : goal.returns-clause-moments
+returns-clause-moments g c =
+    λ tells.
+    let told = g.D.DiskCalls.told in
+    let old = c.args.self.now in
+    call_run told old _ c.read_at-outcome.result _ _ (c.read_at-outcome.ensures.clock tells) (c.add_call.ensures ∙ ap (moments_after c.read_at-outcome.result) c.reserve.ensures.items) (c.read_at-outcome.ensures.moments tells) (now_pair told old.disk old.moments.items)
+
+pub returns-clause-clock : goal.returns-clause-clock
+returns-clause-clock g c =
+    λ tells.
+    let told = g.D.DiskCalls.told in
+    let old = c.args.self.now in
+    call_ticks c.read_at-outcome.result (told.clock old.disk) _ old.moments.items _ (c.read_at-outcome.ensures.clock tells) (c.add_call.ensures ∙ ap (moments_after c.read_at-outcome.result) c.reserve.ensures.items)

@@ -1,0 +1,82 @@
+-- What the cards of a site keep while the port works.
+use Rattle.std.specs.Prelude.{◌≡◌, ◌⊎◌, ℕ, ◌<◌, ◌≤◌, Bool, true, List, [], ◌∷◌, ◌++◌, Some}
+use Rattle.ota_core.specs.Keyset.{Keyset}
+use Rattle.ota_core.specs.declared.cards.CardFacts.{CardFacts}
+use Rattle.ota_core.specs.declared.keysets.KeysetFacts.{KeysetFacts}
+use Rattle.disk_model.specs.Disk.{Meaning}
+use Rattle.world_core.specs.Members.{In}
+use Rattle.world_core.specs.Card.{CardState, facts_under, stored_counter, IsLine, IsCardState}
+use Rattle.world_core.specs.declared.answers.Made.{Made}
+use Rattle.world_core.specs.declared.lines.Line.{Line}
+use Rattle.site_model.specs.Port.{PortState}
+
+-- a line that the card may log behind these: its counter is above the one that the card has stored for its keyset
+pub record MayFollow (facts : CardFacts) (before : List Line) (line : Line) : Type 0 where
+  pub is_line : IsLine facts line
+  pub above : (own : KeysetFacts) → facts_under line.keyset.kvn facts.keysets ≡ Some own → stored_counter own.base line.keyset before < line.counter
+
+abbrev pub MayFollowAll : CardFacts → List Line → List Line → Type 0
+MayFollowAll facts before [] = Unit {0}
+MayFollowAll facts before (line ∷ lines) = MayFollow facts before line × MayFollowAll facts (before ++ line ∷ []) lines
+
+-- lines that were logged before, and lines that the card may log behind them
+abbrev pub Grows : CardFacts → List Line → List Line → Type 0
+Grows facts before now = (more : List Line) × (now ≡ before ++ more) × MayFollowAll facts before more
+
+-- the same line, or one that wasn't finished and ran further
+pub record IsFurther (before now : Line) : Type 0 where
+  pub keyset : now.keyset ≡ before.keyset
+  pub counter : now.counter ≡ before.counter
+  pub tar : now.tar ≡ before.tar
+  pub body : now.body ≡ before.body
+  pub status : now.status ≡ before.status
+  pub executed : before.executed ≤ now.executed
+  pub finished : before.finished ≡ true → now ≡ before
+
+-- each line is there still, and may have run further
+abbrev pub GoesOn : List Line → List Line → Type 0
+GoesOn [] now = Unit {0}
+GoesOn (line ∷ lines) [] = ⊥
+GoesOn (line ∷ lines) (further ∷ now) = IsFurther line further × GoesOn lines now
+
+-- the finished line of an answer
+pub record IsLineOf (made : Made) (line : Line) : Type 0 where
+  pub keyset : line.keyset ≡ made.keyset
+  pub counter : line.counter ≡ made.counter
+  pub finished : line.finished ≡ true
+  pub status : line.status ≡ made.status
+  pub answer : line.answer ≡ made.answer
+
+abbrev pub IsTaken : ℕ → Type 0
+IsTaken status = (status ≡ 0x00) ⊎ (status ≡ 0x07) ⊎ (status ≡ 0x09)
+
+-- one list is the other and what joined it
+abbrev pub Begins : {X : Type 0} → List X → List X → Type 0
+Begins {X = X} before now = (more : List X) × (now ≡ before ++ more)
+
+module _ {D B C : Type 0} (told : Meaning D B C) (port : B → PortState) (lines : C → ℕ → List Line) where
+  abbrev pub port_at : D → ℕ → PortState
+  port_at site moment = port (told.beside_at site moment)
+
+  abbrev pub port_now : D → PortState
+  port_now site = port_at site (told.clock site)
+
+  -- At each moment of a call of the port: what was sent, given and made grows, and no facts change. What the cards may
+  -- have logged goes on from what they may have logged before, and an answer is made only once its line is logged.
+  pub record Keeps (old new : D) : Type 0 where
+    pub facts : (k : ℕ) → told.clock old ≤ k → k ≤ told.clock new → (port_at new k).facts ≡ (port_now old).facts
+    pub sent : (k l : ℕ) → told.clock old ≤ k → k ≤ l → l ≤ told.clock new → Begins (port_at new k).sent (port_at new l).sent
+    pub given : (k l : ℕ) → told.clock old ≤ k → k ≤ l → l ≤ told.clock new → Begins (port_at new k).given (port_at new l).given
+    pub made : (k l : ℕ) → told.clock old ≤ k → k ≤ l → l ≤ told.clock new → Begins (port_at new k).made (port_at new l).made
+    pub polls : (k l : ℕ) → told.clock old ≤ k → k ≤ l → l ≤ told.clock new → (port_at new k).polls ≤ (port_at new l).polls
+    -- each list is one from before the call, and lines behind it
+    pub grows : (k : ℕ) (now : C) → told.clock old ≤ k → k ≤ told.clock new → told.choice_at new k now
+        → (before : C) × told.choice_at old (told.clock old) before × ((card : CardFacts) → In card (port_now old).facts → Grows card (lines before card.card.0) (lines now card.card.0))
+    -- within the call too
+    pub goes_on : (k l : ℕ) (now : C) → told.clock old ≤ k → k ≤ l → l ≤ told.clock new → told.choice_at new l now
+        → (before : C) × told.choice_at new k before × ((card : ℕ) → GoesOn (lines before card) (lines now card))
+    pub states : ((before : C) (card : CardFacts) → told.choice_at old (told.clock old) before → In card (port_now old).facts → IsCardState (record { facts = card; log = lines before card.card.0 }))
+        → (k : ℕ) (now : C) (card : CardFacts) → told.clock old ≤ k → k ≤ told.clock new → told.choice_at new k now → In card (port_now old).facts
+        → IsCardState (record { facts = card; log = lines now card.card.0 })
+    pub answers : (k : ℕ) (made : Made) → told.clock old ≤ k → k ≤ told.clock new → In made (port_at new k).made
+        → In made (port_now old).made ⊎ (IsTaken made.status → (now : C) → told.choice_at new k now → (line : Line) × In line (lines now made.keyset.card.0) × IsLineOf made line)
