@@ -17,7 +17,7 @@ use Rattle.applet_registry.specs.declared.application.NewState.{NewState}
 use Rattle.applet_registry.specs.declared.load.Load.{Load}
 use Rattle.applet_registry.specs.declared.load_file.LoadFile.{LoadFile}
 use Rattle.applet_registry.specs.declared.limits.TheConstants.{LOAD_FILES_ROOM, LOAD_FILES, APPLICATIONS, ANSWER_ROOM}
-use Rattle.applet_registry.specs.Aid.{is_aid, aid_of}
+use Rattle.applet_registry.specs.Aid.{aid_of}
 use Rattle.applet_registry.specs.DataBlock.{data_block_of}
 use Rattle.applet_registry.specs.Fields.{values_of, new_load_file_in, named_in, new_application_of, installed_of, tagged_value_of}
 use Rattle.applet_registry.specs.State.{State, has_load_file, has_application, is_known, state_of, is_in_use, with_state, without_application, without_load_file, without_load, room_of, awaits_block, with_block}

@@ -1,6 +1,6 @@
 -- The load files and the applications of a card, and the load under way. GlobalPlatform Card Specification
 -- 2.1.1, 5 and 6.
-use Rattle.std.specs.Prelude.{ℕ, suc, ◌+◌, Bool, false, not, ◌||◌, ◌&&◌, ◌==◌, nat_lt, is_some, if◌then◌else◌, Option, Some, None, option_map, List, ◌++◌, length, map, filter, find, sum_by, bytes_eq}
+use Rattle.std.specs.Prelude.{ℕ, ◌+◌, Bool, false, not, ◌||◌, ◌&&◌, ◌==◌, nat_lt, if◌then◌else◌, Option, None, option_map, List, ◌++◌, length, map, filter, find, sum_by, bytes_eq}
 use Rattle.std.specs.List.{list_any}
 use Rattle.std.specs.Option.{option_map_or}
 use Rattle.applet_registry.specs.declared.application.Application.{Application}

@@ -1,5 +1,5 @@
 -- What GET STATUS gives. GlobalPlatform Card Specification 2.1.1, 9.4.3.
-use Rattle.std.specs.Prelude.{ℕ, ◌-◌, ◌==◌, nat_le, nat_eq, if◌then◌else◌, List, [], ◌∷◌, ◌++◌, length, map, filter}
+use Rattle.std.specs.Prelude.{ℕ, ◌-◌, nat_le, nat_eq, if◌then◌else◌, List, [], ◌∷◌, ◌++◌, length, map, filter}
 use Rattle.std.specs.List.{starts_with}
 use Rattle.applet_registry.specs.declared.application.Application.{Application}
 use Rattle.applet_registry.specs.declared.application.TheConstants.{LOADED}

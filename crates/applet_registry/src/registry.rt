@@ -3,7 +3,7 @@
 ghost use Rattle.std.specs.Prelude.{◌≡◌, ◌+◌, ◌<◌, length, nat_le, option_and_then, MatchResult, IfOk, IfSome, OnErr, Ok, Err};
 ghost use Rattle.apdu_codec.specs.Reply.{answer, answered};
 ghost use Rattle.applet_registry.specs.Commands as command;
-ghost use Rattle.applet_registry.specs.State.{has_load_file, has_application, is_loading, is_known, is_in_use, without_application, without_load_file, under_way, room_of};
+ghost use Rattle.applet_registry.specs.State.{has_load_file, has_application, is_loading, is_known, is_in_use, without_application, without_load_file, without_load, under_way, room_of};
 ghost use Rattle.applet_registry.specs.Status.{fitting};
 
 use crate::aid::Aid;
@@ -85,8 +85,7 @@ impl Registry {
             return Ok(Reply::refused(Refusal::ConditionsNotMet));
         }
         if !self.has_room(octets.len()) {
-            self.load = None;
-            return Ok(Reply::refused(Refusal::NoRoom));
+            return Ok(self.drop_load(Refusal::NoRoom));
         }
         if p1 == 0 {
             self.take_block(octets)?;
@@ -98,10 +97,7 @@ impl Registry {
                 self.load = None;
                 Ok(Reply::done(ArrayVec::new()))
             }
-            None => {
-                self.load = None;
-                Ok(Reply::refused(Refusal::WrongData))
-            }
+            None => Ok(self.drop_load(Refusal::WrongData)),
         }
     }
 
@@ -312,6 +308,14 @@ impl Registry {
     {
         let taken = total(&self.load_files).saturating_add(self.octets_under_way() as u64);
         taken.saturating_add(len as u64) <= u64::from(LOAD_FILES_ROOM)
+    }
+
+    /// Refuses a block, and drops the load under way.
+    fn drop_load(&mut self, refusal: Refusal) -> Reply
+        ensures { answered self.new result ≡ answer (without_load self.old) (Err refusal) }
+    {
+        self.load = None;
+        Reply::refused(refusal)
     }
 
     /// Adds a block to the load under way.
