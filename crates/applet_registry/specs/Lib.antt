@@ -1,0 +1,6 @@
+pub mod Aid
+pub mod Commands
+pub mod DataBlock
+pub mod Fields
+pub mod State
+pub mod Status

@@ -1,0 +1,80 @@
+-- The load files and the applications of a card, and the load under way. GlobalPlatform Card Specification
+-- 2.1.1, 5 and 6.
+use Rattle.std.specs.Prelude.{ℕ, ◌+◌, Bool, false, not, ◌||◌, ◌&&◌, ◌==◌, nat_lt, if◌then◌else◌, Option, None, option_map, List, ◌++◌, length, map, filter, find, sum_by, bytes_eq}
+use Rattle.std.specs.List.{list_any}
+use Rattle.std.specs.Option.{option_map_or}
+use Rattle.applet_registry.specs.declared.application.Application.{Application}
+use Rattle.applet_registry.specs.declared.application.NewState.{NewState}
+use Rattle.applet_registry.specs.declared.load.Load.{Load}
+use Rattle.applet_registry.specs.declared.load_file.LoadFile.{LoadFile}
+use Rattle.applet_registry.specs.declared.limits.TheConstants.{LOAD_BLOCKS}
+
+-- the load files and the applications, each in order of registration, and the load under way
+pub record State : Type 0 where
+  pub load_files : List LoadFile
+  pub applications : List Application
+  pub load : Option Load
+
+-- there is a load file, or an application, with this AID
+abbrev pub has_load_file : State → List ℕ → Bool
+has_load_file s aid = list_any (λ file. bytes_eq file.aid aid) s.load_files
+
+abbrev pub has_application : State → List ℕ → Bool
+has_application s aid = list_any (λ application. bytes_eq application.aid aid) s.applications
+
+-- the load under way has this AID
+abbrev pub is_loading : State → List ℕ → Bool
+is_loading s aid = option_map_or (λ load. bytes_eq load.aid aid) s.load false
+
+-- a known AID: that of a load file, of an application, or of the load under way
+abbrev pub is_known : State → List ℕ → Bool
+is_known s aid = has_load_file s aid || has_application s aid || is_loading s aid
+
+-- the state of the application with this AID
+abbrev pub state_of : List Application → List ℕ → Option ℕ
+state_of applications aid = option_map (λ application. application.state) (find (λ application. bytes_eq application.aid aid) applications)
+
+-- an application comes from the load file with this AID
+abbrev pub is_in_use : State → List ℕ → Bool
+is_in_use s aid = list_any (λ application. bytes_eq application.load_file aid) s.applications
+
+-- the application with an AID has a new state
+abbrev pub with_state_of : NewState → Application → Application
+with_state_of new application = if bytes_eq application.aid new.aid then record application { state = new.state } else application
+
+abbrev pub with_state : State → NewState → State
+with_state s new = record s { applications = map (with_state_of new) s.applications }
+
+-- an application goes; a load file goes, with the applications that come from it
+abbrev pub without_application : State → List ℕ → State
+without_application s aid = record s { applications = filter (λ application. not (bytes_eq application.aid aid)) s.applications }
+
+abbrev pub without_load_file : State → List ℕ → State
+without_load_file s aid = record s {
+  load_files = filter (λ file. not (bytes_eq file.aid aid)) s.load_files;
+  applications = filter (λ application. not (bytes_eq application.load_file aid)) s.applications;
+}
+
+-- the load under way is dropped
+abbrev pub without_load : State → State
+without_load s = record s { load = None }
+
+-- the octets that load files hold
+abbrev pub total_of : List LoadFile → ℕ
+total_of files = sum_by (λ (file : LoadFile). length file.octets) files
+
+-- the octets of the load under way
+abbrev pub under_way : State → ℕ
+under_way s = option_map_or (λ load. length load.blocks) s.load 0
+
+-- the room that is taken: by the octets of all load files, and by the blocks of the load under way
+abbrev pub room_of : State → ℕ
+room_of s = total_of s.load_files + under_way s
+
+-- the block with this number, from 0, is the next one of a load
+abbrev pub awaits_block : Load → ℕ → Bool
+awaits_block load number = number == load.count && nat_lt load.count LOAD_BLOCKS
+
+-- a load has taken one block more
+abbrev pub with_block : Load → List ℕ → Load
+with_block load block = record load { blocks = load.blocks ++ block; count = load.count + 1 }
