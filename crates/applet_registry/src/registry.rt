@@ -464,3 +464,6 @@ fn with_lock(p2: u8, state: u8) -> u8
         state % 0x80 + 0x80
     }
 }
+
+#[cfg(test)]
+mod tests;
