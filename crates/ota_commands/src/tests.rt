@@ -1,6 +1,7 @@
 // The command `reserve` over memory: its rows, and each fault with its status.
 use crate::{Ended, Fault, Which, plain_command};
 use disk_model::MemDisk;
+use ota_core::History;
 use ota_io::{MemSink, MemSource};
 use plan_reader::{Column, Field, Table};
 use std::alloc::{AllocError, Global};
@@ -315,5 +316,13 @@ fn another_number_of_sites_is_refused(rt: HostRuntime) -> Result<(), Fail> {
     let ended = plain_command(alloc, &words, &mut plan, &mut jobs, &mut out, sites);
     assert!(rt; ended.fault == Some(Fault::Usage));
     assert!(rt; ended.ends.is_empty());
+    Ok(())
+}
+
+#[test]
+fn a_history_makes_room(rt: HostRuntime) -> Result<(), Fail> {
+    let mut history = History::new(rt.alloc());
+    assert!(rt; history.reserve(100).is_ok());
+    assert!(rt; history.entries().is_empty());
     Ok(())
 }
