@@ -1,3 +1,4 @@
-pub mod Command
+pub mod AppletCommand
+pub mod FileCommand
 pub mod Run
 pub mod Step

@@ -2,16 +2,18 @@
 use Rattle.std.specs.Prelude.{◌≡◌, ℕ, zero, suc, ◌==◌, if◌then◌else◌, Option, Some, None, List, [], length}
 use Rattle.apdu_codec.specs.declared.refusal.TheConstants.{DONE}
 use Rattle.apdu_codec.specs.Reply.{Answer}
-use Rattle.card_files.specs.Fresh.{fresh_state}
+use Rattle.card_files.specs.Fresh as files
+use Rattle.applet_registry.specs.Commands as registry
 use Rattle.script_engine.specs.declared.card.CardState.{CardState}
 use Rattle.script_engine.specs.declared.part.Part.{Part}
 use Rattle.script_engine.specs.Step.{script_step}
 
--- a new card
+-- a new card: the files of a new card, and a registry that holds nothing
 abbrev pub fresh_card : CardState
-fresh_card = record { files = fresh_state }
+fresh_card = record { files = files.fresh_state; registry = registry.fresh_state }
 
--- the card at the start of a script: the MF is selected, and no EF
+-- the card at the start of a script: the MF is selected, and no EF; the registry is as it was, with the load
+-- under way
 abbrev pub with_mf_selected : CardState → CardState
 with_mf_selected card = record card { files = record card.files { folder = []; ef = None } }
 

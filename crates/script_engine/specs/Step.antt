@@ -13,34 +13,60 @@ use Rattle.apdu_codec.specs.declared.refusal.TheConstants.{DONE}
 use Rattle.apdu_codec.specs.Refusal.{status_word_of}
 use Rattle.apdu_codec.specs.Apdu.{next_of}
 use Rattle.apdu_codec.specs.Reply.{Answer}
-use Rattle.card_files.specs.State.{State}
+use Rattle.card_files.specs.State as files
+use Rattle.applet_registry.specs.State as registry
 use Rattle.script_engine.specs.declared.card.CardState.{CardState}
 use Rattle.script_engine.specs.declared.part.Part.{Part}
 use Rattle.script_engine.specs.declared.part.Part.TheVariants as Parts
-use Rattle.script_engine.specs.declared.command.FileCommand.{FileCommand}
-use Rattle.script_engine.specs.Command.{file_command_of, class_of, is_output, file_command}
+use Rattle.script_engine.specs.declared.file_command.FileCommand.{FileCommand}
+use Rattle.script_engine.specs.declared.applet_command.AppletCommand.{AppletCommand}
+use Rattle.script_engine.specs.FileCommand as file
+use Rattle.script_engine.specs.AppletCommand as applet
 
 -- a command that is refused changes nothing and gives no data
 abbrev pub refused : CardState → Refusal → Answer CardState
 refused card refusal = record { after = card; sw = status_word_of refusal; out = [] }
 
--- a command on the files changes nothing else of the card
-abbrev pub on_files : CardState → Answer State → Answer CardState
+-- why a command is refused before what it tests itself: it has another class than its own, or may stand only
+-- last and doesn't
+abbrev pub refusal_before : Apdu → Bool → ℕ → Bool → Option Refusal
+refusal_before apdu last class output =
+    if not (apdu.cla == class) then Some UnknownClass
+    else if output && not last then Some ConditionsNotMet
+    else None
+
+-- a command is refused so, or it does what it does
+abbrev pub unless_refused : CardState → Answer CardState → Option Refusal → Answer CardState
+unless_refused card made (Some refusal) = refused card refusal
+unless_refused card made None = made
+
+-- a command on the files changes nothing else of the card, and one on the registry neither
+abbrev pub on_files : CardState → Answer files.State → Answer CardState
 on_files card made = record { after = record card { files = made.after }; sw = made.sw; out = made.out }
+
+abbrev pub on_registry : CardState → Answer registry.State → Answer CardState
+on_registry card made = record { after = record card { registry = made.after }; sw = made.sw; out = made.out }
 
 -- a command on the files, by its place in their table
 abbrev pub file_step : CardState → Apdu → Bool → List ℕ → Option FileCommand → Answer CardState
 file_step card apdu last octets None = refused card UnknownInstruction
 file_step card apdu last octets (Some command) =
-    if not (apdu.cla == class_of command) then refused card UnknownClass
-    else if is_output command && not last then refused card ConditionsNotMet
-    else on_files card (file_command command card.files apdu.p1 apdu.p2 apdu.p3 octets)
+    unless_refused card
+    (on_files card (file.file_command command card.files apdu.p1 apdu.p2 apdu.p3 octets))
+    (refusal_before apdu last (file.class_of command) (file.is_output command))
 
--- a command of a part of the card, which is the last one of its script or not; the table of the applets is
--- empty
+-- a command on the registry, by its place in the table of the applets
+abbrev pub applet_step : CardState → Apdu → Bool → List ℕ → Option AppletCommand → Answer CardState
+applet_step card apdu last octets None = refused card UnknownInstruction
+applet_step card apdu last octets (Some command) =
+    unless_refused card
+    (on_registry card (applet.applet_command command card.registry apdu.p1 apdu.p2 apdu.p3 octets))
+    (refusal_before apdu last applet.class (applet.is_output command))
+
+-- a command of a part of the card, which is the last one of its script or not
 abbrev pub command_step : CardState → Part → Apdu → Bool → List ℕ → Answer CardState
-command_step card Parts.Files apdu last octets = file_step card apdu last octets (file_command_of apdu.ins)
-command_step card Parts.Applets apdu last octets = refused card UnknownInstruction
+command_step card Parts.Files apdu last octets = file_step card apdu last octets (file.file_command_of apdu.ins)
+command_step card Parts.Applets apdu last octets = applet_step card apdu last octets (applet.applet_command_of apdu.ins)
 
 -- the octets of a command's data
 abbrev pub data_of : List ℕ → Apdu → List ℕ

@@ -3,34 +3,41 @@
 ghost use Rattle.std.specs.Prelude.{◌≡◌, ◌+◌, ◌^◌, ◌<◌, ◌≤◌, ◌==◌, if◌then◌else◌, Some, None, length, IfOk, IfSome, OnErr};
 ghost use Rattle.apdu_codec.specs.Apdu.{data_len_of};
 ghost use Rattle.apdu_codec.specs.Reply.{answered};
-ghost use Rattle.script_engine.specs.Command.{file_command_of};
-ghost use Rattle.script_engine.specs.Step.{command_step, file_step, script_step, data_of, goes_on};
+ghost use Rattle.script_engine.specs.AppletCommand.{applet_command_of};
+ghost use Rattle.script_engine.specs.FileCommand.{file_command_of};
+ghost use Rattle.script_engine.specs.Step.{applet_step, command_step, data_of, file_step, goes_on, refusal_before, script_step};
 
-use crate::command::FileCommand;
+use crate::applet_command::{APPLET_CLASS, AppletCommand};
+use crate::file_command::FileCommand;
 use crate::part::Part;
 use crate::ran::Ran;
 use crate::step::Step;
 use apdu_codec::{Apdu, DONE, Next, Refusal, Reply, next_apdu};
+use applet_registry::Registry;
 use arrayvec::ArrayVec;
 use card_files::Files;
 use ota_core::Memory;
 use std::alloc::Global;
 
-/// What a card holds, and what is selected.
+/// What a card holds: its files with what is selected, and its registry of load files and applications.
 #[derive(Drop)]
 pub struct CardState {
     files: Files,
+    registry: Registry,
 }
 
 impl CardState {
     ghost use Rattle.script_engine.specs.Run.{fresh_card, with_mf_selected, HasRun, HasBegun};
 
-    /// A new card, with the MF selected.
+    /// A new card, with the MF selected and nothing registered.
     pub fn fresh(alloc: Global) -> Result<CardState, Memory>
         ensures { IfOk result (λ card. card ≡ fresh_card) }
     {
         let files = Files::fresh(alloc)?;
-        Ok(CardState { files })
+        Ok(CardState {
+            files,
+            registry: Registry::fresh(alloc),
+        })
     }
 
     /// The files.
@@ -40,7 +47,14 @@ impl CardState {
         &self.files
     }
 
-    /// Begins a script: selects the MF, and no EF.
+    /// The registry of load files and applications.
+    pub fn registry(&self) -> &Registry
+        ensures { result.now ≡ self.now.registry }
+    {
+        &self.registry
+    }
+
+    /// Begins a script: selects the MF, and no EF. A load under way goes on.
     pub fn begin_script(&mut self)
         ensures { self.new ≡ with_mf_selected self.old }
     {
@@ -116,7 +130,7 @@ impl CardState {
     {
         match part {
             Part::Files => self.run_file_command(apdu, last, octets),
-            Part::Applets => Ok(Reply::refused(Refusal::UnknownInstruction)),
+            Part::Applets => self.run_applet_command(apdu, last, octets),
         }
     }
 
@@ -130,14 +144,46 @@ impl CardState {
             Some(command) => command,
             None => return Ok(Reply::refused(Refusal::UnknownInstruction)),
         };
-        if apdu.cla != command.class() {
-            return Ok(Reply::refused(Refusal::UnknownClass));
+        match refusal_before(apdu, last, command.class(), command.is_output()) {
+            Some(refusal) => Ok(Reply::refused(refusal)),
+            None => command.run(&mut self.files, apdu.p1, apdu.p2, apdu.p3, octets),
         }
-        if command.is_output() && !last {
-            return Ok(Reply::refused(Refusal::ConditionsNotMet));
-        }
-        command.run(&mut self.files, apdu.p1, apdu.p2, apdu.p3, octets)
     }
+
+    /// Runs a command on the registry.
+    fn run_applet_command(
+        &mut self,
+        apdu: &Apdu,
+        last: bool,
+        octets: &[u8],
+    ) -> Result<Reply, Memory>
+        requires { length octets.now ≡ data_len_of apdu.now.ins apdu.now.p3 }
+        ensures answer { IfOk result (λ reply. answered self.new reply ≡ applet_step self.old apdu.now last octets.now (applet_command_of apdu.now.ins)) }
+        ensures err { OnErr result (self.new ≡ self.old) }
+    {
+        let command = match AppletCommand::of(apdu.ins) {
+            Some(command) => command,
+            None => return Ok(Reply::refused(Refusal::UnknownInstruction)),
+        };
+        match refusal_before(apdu, last, APPLET_CLASS, command.is_output()) {
+            Some(refusal) => Ok(Reply::refused(refusal)),
+            None => command.run(&mut self.registry, apdu.p1, apdu.p2, apdu.p3, octets),
+        }
+    }
+}
+
+/// Why a command is refused before what it tests itself: for its class, or as one that may stand only last
+/// and doesn't.
+fn refusal_before(apdu: &Apdu, last: bool, class: u8, is_output: bool) -> Option<Refusal>
+    ensures { result ≡ refusal_before apdu.now last class is_output }
+{
+    if apdu.cla != class {
+        return Some(Refusal::UnknownClass);
+    }
+    if is_output && !last {
+        return Some(Refusal::ConditionsNotMet);
+    }
+    None
 }
 
 /// The data of a command.

@@ -3,8 +3,9 @@
 //! ETSI TS 102 226, 5.2.1.
 #![tactic(auto)]
 
+mod applet_command;
 mod card;
-mod command;
+mod file_command;
 mod part;
 mod ran;
 mod step;

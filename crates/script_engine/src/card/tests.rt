@@ -24,6 +24,14 @@ const CASES: &str = "\
 7f106f3a 00b201040000a40000023f00 026985
 6fa0 00a20104010000a40000023f00 026985
 6fa0 00a2010401000000 026985
+# Instructions of the applets, and the one that both parts have.
+- 80e602000a05a00000000100000000 016d00
+- 80e8800004c4021122 016d00
+- 80f0408006a00000000102 016d00
+- 80f24000024f00 016d00
+- 80f24000024f0000a40000023f00 016d00
+- 80e40000074f05a000000001 016e00
+- 80e40000026fa1 016e00
 # SELECT by an identifier.
 - 00a40004027f10 019000
 - 00a4000c026fa1 019000
@@ -205,6 +213,87 @@ const CASES: &str = "\
 - 00e40000022fe2 016982
 ";
 
+/// Scripts for the applets, one card a line: it is new, then come scripts (-: no commands), and behind each
+/// one the compact response to it. A line that begins with # says what the next ones are of.
+const APPLET_CASES: &str = "\
+# What stands in a script.
+- 009000
+00 016700
+80e602000a05a000000001000000 016700
+80e602000a05a0000000010000000000 026700
+80e600000080e602000a05a00000000100000000 016a86 80e8800004c4021122 016985
+80e602000a05a00000000100000000 019000 80e8800004c4021122 019000 80f22000024f00 01900005a0000000010100
+# The instruction, the class and the place are tested before P1, P2 and the data.
+80c0000000 016d00
+00c0000000 016d00
+00a40000023f00 016d00
+00b0000001 016d00
+00b000000180f24000024f00 016d00
+00d600000107 016d00
+00b2010400 016d00
+00dc01040100 016d00
+00a201040100 016d00
+00a20104010080f24000024f00 016d00
+8032000003000005 016d00
+0004000000 016d00
+0044000000 016d00
+00e0000006026fb0000010 016d00
+00e40000026fa1 016e00
+00e602000a05a00000000100000000 016e00
+00e8800004c4021122 016e00
+00e40000074f05a000000001 016e00
+00f0408006a00000000102 016e00
+00f24000024f00 016e00
+84e602000a05a00000000100000000 016e00
+00e6000000 016e00
+00f24000024f0080f24000024f00 016e00
+80f24000024f0080f24000024f00 016985
+80f21000024f0080f24000024f00 016985
+80f240000080f24000024f00 016985
+80f24000024f0000 016a88
+80f24000024f000000 016985
+80f210000000 016a86
+# INSTALL.
+80e6000000 016a86
+80e603000a05a00000000100000000 016a86
+80e602010a05a00000000100000000 016a86
+80e6020000 016a80
+80e6040000 016a80
+80e6080000 016a80
+80e602000a05a0000000010000000080e602000a05a00000000100000000 026985
+80e60c001a05a00000000106a0000000010106a00000000102010002c90000 016a88
+80e604001a05a00000000106a0000000010106a00000000102010002c90000 016a88
+80e608000d000006a0000000010201000000 016a88
+# LOAD.
+80e8010000 016a86
+80e88000022122 016985
+80e602000a05a0000000010000000080e8800104c4021122 026985
+80e602000a05a0000000010000000080e8800002c480 026a80 80e8800004c4021122 016985
+80e602000a05a0000000010000000080e8000002c40280e80001021122 039000
+80e602000a05a0000000010000000080e8000002c40280e88001021122 039000
+# DELETE.
+80e40100074f05a000000001 016a86
+80e40001074f05a000000001 016a86
+80e4000000 016a80
+80e40000024f00 016a80
+80e40000074f05a000000001 016a88
+80e602000a05a0000000010000000080e8800004c402112280e40000074f05a00000000180f22000024f00 046a88
+# SET STATUS.
+80f0808006a00000000102 016a86
+80f0408000 016a80
+80f0408006a00000000102 016a88
+# GET STATUS.
+80f21000024f00 016a86
+80f24001024f00 016a86
+80f2400000 016a80
+80f24000024f00 016a88
+80f22000024f00 016a88
+80f28000024f00 016a88
+# A load file and its application, and what becomes of them.
+80e602000a05a0000000010000000080e8800004c402112280e60c001a05a00000000106a0000000010106a00000000102010002c9000080f24000024f00 04900006a000000001020700 80e40000074f05a000000001 016985 80f0408006a0000000010280f24000024f0000 02900006a000000001028700 80e608000d000006a0000000010201000000 016985 80e40080074f05a00000000180f24000024f00 026a88
+80e602000a05a0000000010000000080e8800004c402112280e604001a05a00000000106a0000000010106a00000000102010002c90000 039000 80e608000d000006a000000001020100000080f24000024f00 02900006a000000001020700 80e40000084f06a0000000010280e40000074f05a000000001 029000
+";
+
 /// A script that selects the file of a path, if one is said, and then goes on with these commands.
 fn script_on(alloc: Global, path: &str, commands: &str) -> Result<Vec<u8>, Fail> {
     let path = octets(alloc, path)?;
@@ -329,20 +418,78 @@ fn card_keeps_its_files_between_scripts(rt: HostRuntime) -> Result<(), Fail> {
 }
 
 #[test]
-fn table_of_applets_is_empty(rt: HostRuntime) -> Result<(), Fail> {
-    let cases = [
-        ("", "009000"),
-        ("00a40000023f00", "016d00"),
-        ("80f24000024f0000a40000023f00", "016d00"),
-        ("80e602000a05a00000000100000000", "016d00"),
-        ("80e602000a05a000000001000000", "016700"),
-    ];
-    for (script, want) in cases {
+fn applet_commands_answer_as_their_table_says(rt: HostRuntime) -> Result<(), Fail> {
+    for line in APPLET_CASES.lines().filter(|line| !line.starts_with("#")) {
+        let mut words = line.split_whitespace();
         let mut card = CardState::fresh(rt.alloc())?;
+        while let Some(script) = words.next() {
+            let script = octets(rt.alloc(), script)?;
+            let got = response(rt.alloc(), &mut card, Part::Applets, &script)?;
+            assert_eq!(rt; got.as_str(), words.next().unwrap_or(""), "{line}");
+        }
+    }
+    Ok(())
+}
+
+/// A load file with an application that may be selected, and a list of the applications.
+const APPLICATION_LOADED: &str =
+    "80e602000a05a0000000010000000080e8800004c402112280e60c001a05a00000000106a0000000010106a00000000102010002c9000080f24000024f00";
+
+#[test]
+fn parts_of_a_card_leave_each_other_alone(rt: HostRuntime) -> Result<(), Fail> {
+    let mut card = CardState::fresh(rt.alloc())?;
+    let cases = [
+        (Part::Files, "00a40000026fa100d60000021122", "029000"),
+        (
+            Part::Applets,
+            APPLICATION_LOADED,
+            "04900006a000000001020700",
+        ),
+        (Part::Applets, "80e602000a05a00000000200000000", "019000"),
+        (Part::Files, "00a40000026fa100b0000003", "0290001122ff"),
+        (Part::Files, "80f24000024f00", "016d00"),
+        (Part::Files, "00e40000026fa1", "019000"),
+        (Part::Applets, "00a40000027f10", "016d00"),
+        (Part::Applets, "80e8800004c4021122", "019000"),
+        (
+            Part::Applets,
+            "80f22000024f00",
+            "01900005a000000001010005a0000000020100",
+        ),
+        (Part::Applets, "80f24000024f00", "01900006a000000001020700"),
+        (Part::Files, "00a40000026fa1", "016a82"),
+    ];
+    for (part, script, want) in cases {
         let script = hex::decode(rt.alloc(), script)?;
-        let got = response(rt.alloc(), &mut card, Part::Applets, &script)?;
+        let got = response(rt.alloc(), &mut card, part, &script)?;
         assert_eq!(rt; got.as_str(), want);
     }
+    Ok(())
+}
+
+#[test]
+fn applet_commands_run_one_by_one(rt: HostRuntime) -> Result<(), Fail> {
+    let script = hex::decode(rt.alloc(), APPLICATION_LOADED)?;
+    if script.len() != 62 {
+        assert!(rt; false, "the script has 62 octets");
+        return Ok(());
+    }
+    let mut card = CardState::fresh(rt.alloc())?;
+    card.begin_script();
+    for (at, next) in [(0, Some(15)), (15, Some(24)), (24, Some(55)), (55, None)] {
+        let step = card.run_one(Part::Applets, &script, at)?;
+        assert_eq!(rt; step.reply.sw, 0x9000);
+        assert_eq!(rt; step.next, next);
+        // A new start leaves what is loaded, and the load under way.
+        card.begin_script();
+    }
+    // The last command alone gives data, and what begins a second time is refused.
+    let step = card.run_one(Part::Applets, &script, 55)?;
+    let entry = [6, 0xA0, 0, 0, 0, 1, 2, 7, 0];
+    assert_eq!(rt; step.reply.out.as_slice(), entry.as_slice());
+    let step = card.run_one(Part::Applets, &script, 0)?;
+    assert_eq!(rt; step.reply.sw, 0x6985);
+    assert_eq!(rt; step.next, None);
     Ok(())
 }
 

@@ -4,8 +4,8 @@ use Rattle.std.specs.Prelude.{ℕ, Bool, true, false, ◌==◌, if◌then◌else
 use Rattle.apdu_codec.specs.Reply.{Answer}
 use Rattle.card_files.specs.State.{State}
 use Rattle.card_files.specs.Commands as command
-use Rattle.script_engine.specs.declared.command.FileCommand.{FileCommand}
-use Rattle.script_engine.specs.declared.command.FileCommand.TheVariants.{Select, ReadBinary, UpdateBinary, ReadRecord, UpdateRecord, SearchRecord, Increase, Deactivate, Activate, Create, Delete}
+use Rattle.script_engine.specs.declared.file_command.FileCommand.{FileCommand}
+use Rattle.script_engine.specs.declared.file_command.FileCommand.TheVariants.{Select, ReadBinary, UpdateBinary, ReadRecord, UpdateRecord, SearchRecord, Increase, Deactivate, Activate, Create, Delete}
 
 -- the command of an instruction
 abbrev pub file_command_of : ℕ → Option FileCommand

@@ -3,7 +3,7 @@
 ghost use Rattle.std.specs.Prelude.{◌≡◌, ℕ, OnErr, IfOk, IfSome, length};
 ghost use Rattle.apdu_codec.specs.Apdu.{data_len_of};
 ghost use Rattle.apdu_codec.specs.Reply.{answered};
-ghost use Rattle.script_engine.specs.Command.{file_command_of, class_of, is_output, data_len, file_command};
+ghost use Rattle.script_engine.specs.FileCommand.{file_command_of, class_of, is_output, data_len, file_command};
 
 use apdu_codec::Reply;
 use card_files::Files;
