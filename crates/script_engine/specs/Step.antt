@@ -3,7 +3,7 @@
 -- Before what each command tests itself, these are tested in this order: that the instruction is in the
 -- table of the part (6D00), that the class is the instruction's (6E00), and that a command that may stand
 -- only last does so (6985).
-use Rattle.std.specs.Prelude.{ℕ, Bool, not, ◌==◌, ◌&&◌, nat_lt, if◌then◌else◌, Option, Some, None, List, [], length, take, drop}
+use Rattle.std.specs.Prelude.{◌≡◌, ℕ, Bool, not, ◌==◌, ◌&&◌, nat_lt, if◌then◌else◌, Option, Some, None, List, [], length, take, drop}
 use Rattle.apdu_codec.specs.declared.apdu.Apdu.{Apdu}
 use Rattle.apdu_codec.specs.declared.apdu.Next.{Next}
 use Rattle.apdu_codec.specs.declared.apdu.Next.TheVariants as Nexts
@@ -46,6 +46,11 @@ on_files card made = record { after = record card { files = made.after }; sw = m
 
 abbrev pub on_registry : CardState → Answer registry.State → Answer CardState
 on_registry card made = record { after = record card { registry = made.after }; sw = made.sw; out = made.out }
+
+-- what isn't the part's is as it was
+abbrev pub LeavesTheOther : Part → CardState → CardState → Type 0
+LeavesTheOther Parts.Files before after = after.registry ≡ before.registry
+LeavesTheOther Parts.Applets before after = after.files ≡ before.files
 
 -- a command on the files, by its place in their table
 abbrev pub file_step : CardState → Apdu → Bool → List ℕ → Option FileCommand → Answer CardState

@@ -5,7 +5,7 @@ ghost use Rattle.apdu_codec.specs.Apdu.{data_len_of};
 ghost use Rattle.apdu_codec.specs.Reply.{answered};
 ghost use Rattle.script_engine.specs.AppletCommand.{applet_command_of};
 ghost use Rattle.script_engine.specs.FileCommand.{file_command_of};
-ghost use Rattle.script_engine.specs.Step.{applet_step, command_step, data_of, file_step, goes_on, refusal_before, script_step};
+ghost use Rattle.script_engine.specs.Step.{applet_step, command_step, data_of, file_step, goes_on, refusal_before, script_step, LeavesTheOther};
 
 use crate::applet_command::{APPLET_CLASS, AppletCommand};
 use crate::file_command::FileCommand;
@@ -70,6 +70,7 @@ impl CardState {
         requires fits { length script.now < 2 ^ 32 }
         ensures step { IfOk result (λ step. (answered self.new step.reply, step.next) ≡ script_step self.old part script.now at) }
         ensures forward { IfOk result (λ step. IfSome step.next (λ next. (at < next) × (next < length script.now))) }
+        ensures apart { LeavesTheOther part self.old self.new }
         ensures err { OnErr result (self.new ≡ self.old) }
     {
         match next_apdu(script, at) {
@@ -126,6 +127,7 @@ impl CardState {
     ) -> Result<Reply, Memory>
         requires { length octets.now ≡ data_len_of apdu.now.ins apdu.now.p3 }
         ensures answer { IfOk result (λ reply. answered self.new reply ≡ command_step self.old part apdu.now last octets.now) }
+        ensures apart { LeavesTheOther part self.old self.new }
         ensures err { OnErr result (self.new ≡ self.old) }
     {
         match part {
@@ -138,6 +140,7 @@ impl CardState {
     fn run_file_command(&mut self, apdu: &Apdu, last: bool, octets: &[u8]) -> Result<Reply, Memory>
         requires { length octets.now ≡ data_len_of apdu.now.ins apdu.now.p3 }
         ensures answer { IfOk result (λ reply. answered self.new reply ≡ file_step self.old apdu.now last octets.now (file_command_of apdu.now.ins)) }
+        ensures apart { self.new.registry ≡ self.old.registry }
         ensures err { OnErr result (self.new ≡ self.old) }
     {
         let command = match FileCommand::of(apdu.ins) {
@@ -159,6 +162,7 @@ impl CardState {
     ) -> Result<Reply, Memory>
         requires { length octets.now ≡ data_len_of apdu.now.ins apdu.now.p3 }
         ensures answer { IfOk result (λ reply. answered self.new reply ≡ applet_step self.old apdu.now last octets.now (applet_command_of apdu.now.ins)) }
+        ensures apart { self.new.files ≡ self.old.files }
         ensures err { OnErr result (self.new ≡ self.old) }
     {
         let command = match AppletCommand::of(apdu.ins) {

@@ -290,14 +290,14 @@ fn send(registry: &mut Registry, p1: u8, number: u8, block: &[u8]) -> Result<u16
     Ok(registry.load(p1, number, block.len() as u8, block)?.sw)
 }
 
-/// INSTALL [for install and make selectable] of an application of the load file A000000000. Its AID is A1,
-/// zeros, and a number, 13 octets in all.
-fn register(registry: &mut Registry, number: u8) -> Result<u16, Memory> {
+/// INSTALL, with this P1, of an application of the load file A000000000. Its AID is A1, zeros, and a number,
+/// 13 octets in all.
+fn register(registry: &mut Registry, p1: u8, number: u8) -> Result<u16, Memory> {
     let octets = [
         5, 0xA0, 0, 0, 0, 0, 5, 0xA0, 0, 0, 0, 1, 13, 0xA1, 0, 0, 0, 0, 0, 0, 0, 0, 0, 0, 0,
         number, 1, 0, 0, 0,
     ];
-    Ok(registry.install(0x0C, 0, 30, &octets)?.sw)
+    Ok(registry.install(p1, 0, 30, &octets)?.sw)
 }
 
 /// A registry with so many load files, each without octets, and so many applications.
@@ -308,7 +308,7 @@ fn filled(alloc: Global, load_files: u8, applications: u8) -> Result<Registry, M
         let _ = send(&mut registry, 0x80, 0, &[0xC4, 0])?;
     }
     for number in 0..applications {
-        let _ = register(&mut registry, number)?;
+        let _ = register(&mut registry, 0x0C, number)?;
     }
     Ok(registry)
 }
@@ -321,9 +321,10 @@ fn load_files_and_applications_are_counted(rt: HostRuntime) -> Result<(), Memory
     assert_eq!(rt; send(&mut registry, 0x80, 0, &[0xC4, 0])?, 0x9000);
     assert_eq!(rt; begin(&mut registry, 31)?, 0x6A84);
     assert_eq!(rt; begin(&mut registry, 32)?, 0x6985);
-    assert_eq!(rt; register(&mut registry, 63)?, 0x9000);
-    assert_eq!(rt; register(&mut registry, 64)?, 0x6A84);
-    assert_eq!(rt; register(&mut registry, 0)?, 0x6985);
+    assert_eq!(rt; register(&mut registry, 0x04, 63)?, 0x9000);
+    assert_eq!(rt; register(&mut registry, 0x04, 64)?, 0x6A84);
+    assert_eq!(rt; register(&mut registry, 0x0C, 64)?, 0x6A84);
+    assert_eq!(rt; register(&mut registry, 0x0C, 0)?, 0x6985);
     let last = [0x4F, 5, 0xA0, 0, 0, 0, 32];
     assert_eq!(rt; registry.delete_object(0, 0, 7, &last)?.sw, 0x9000);
     assert_eq!(rt; begin(&mut registry, 31)?, 0x9000);
