@@ -96,6 +96,7 @@ impl CardState {
         requires { length script.now < 2 ^ 32 }
         ensures ran { IfOk result (λ ran. HasRun self.old part script.now ran.count (answered self.new ran.reply)) }
         ensures memory { OnErr result (HasBegun self.old part script.now self.new) }
+        ensures apart { LeavesTheOther part (with_mf_selected self.old) self.new }
     {
         self.begin_script();
         let mut ran = Ran {
