@@ -1,4 +1,5 @@
 pub mod AppletCommand
 pub mod FileCommand
+pub mod Part
 pub mod Run
 pub mod Step

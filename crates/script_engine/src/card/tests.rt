@@ -1,5 +1,6 @@
 use super::*;
 use apdu_codec::{ScriptErr, compact_response, split_script};
+use ota_core::Tar;
 use std::test::Fail;
 
 /// Scripts on a new card, one a line: the path of the file that is selected first (-: the MF), the commands
@@ -532,4 +533,15 @@ fn reading_all_gives_at_most_256_octets(rt: HostRuntime) -> Result<(), Fail> {
     let got = response(rt.alloc(), &mut card, Part::Files, &script)?;
     assert_eq!(rt; got.len(), 6 + 2 * 255);
     Ok(())
+}
+
+#[test]
+fn a_tar_asks_for_a_part(rt: HostRuntime) {
+    let files = Tar([0xb0, 0x00, 0x10]);
+    let applets = Tar([0x00, 0x00, 0x00]);
+    let neither = Tar([0xb0, 0x00, 0x11]);
+    assert_eq!(rt; Part::of(&files, &files, &applets), Some(Part::Files));
+    assert_eq!(rt; Part::of(&applets, &files, &applets), Some(Part::Applets));
+    assert_eq!(rt; Part::of(&neither, &files, &applets), None);
+    assert_eq!(rt; Part::of(&files, &files, &files), Some(Part::Files));
 }
