@@ -1,3 +1,4 @@
 pub mod EntriesLemmas
 pub mod RoomLemmas
 pub mod TreeLemmas
+pub mod WithinLemmas

@@ -33,16 +33,31 @@ get-tree_of es q = map.get-from_entries nat_list_cmp_total es q ∙ find-lookup 
 pub distinct : map.IsAntisymmetric by_path
 distinct = map.slice_cmp-IsAntisymmetric map.nat_cmp-IsAntisymmetric
 
+-- a look-up, after what stands at one path was changed
+changed : (old new : List (List ℕ × File)) (path : List ℕ) (w : Option File) (q : List ℕ)
+    → lookup (is_at (by_path q)) new ≡ cond (is_at (by_path path) q) w (lookup (is_at (by_path q)) old)
+    → map.get (tree_of new) q ≡ cond (eq_by_cmp by_path q path) w (map.get (tree_of old) q)
+changed old new path w q h =
+    get-tree_of new q
+    ∙ h
+    ∙ ap (λ b. cond b w (lookup (is_at (by_path q)) old)) ((eq_by_cmp_equiv nat_list_cmp_total).symm path q)
+    ∙ ap (λ found. cond (eq_by_cmp by_path q path) w found) (sym (get-tree_of old q))
+
 -- a map in which one file was put, or changed
 pub tree_of-updated : (old new : List (List ℕ × File)) (path : List ℕ) (file : File)
     → ((q : List ℕ) → lookup (is_at (by_path q)) new ≡ cond (is_at (by_path path) q) (Some file) (lookup (is_at (by_path q)) old))
     → tree_of new ≡ map.insert (tree_of old) path file
 tree_of-updated old new path file updates =
-    let turned : (q : List ℕ) → cond (is_at (by_path path) q) (Some file) (lookup (is_at (by_path q)) old) ≡ cond (eq_by_cmp by_path q path) (Some file) (map.get (tree_of old) q) = λ q.
-    ap (λ b. cond b (Some file) (lookup (is_at (by_path q)) old)) ((eq_by_cmp_equiv nat_list_cmp_total).symm path q)
-    ∙ ap (λ found. cond (eq_by_cmp by_path q path) (Some file) found) (sym (get-tree_of old q)) in
     map.same_map nat_list_cmp_total distinct (tree_of new) (map.insert (tree_of old) path file)
-    (λ q. get-tree_of new q ∙ updates q ∙ turned q ∙ sym (map.get-insert nat_list_cmp_total (tree_of old) path file q))
+    (λ q. changed old new path (Some file) q (updates q) ∙ sym (map.get-insert nat_list_cmp_total (tree_of old) path file q))
+
+-- a map from which one file was taken
+pub tree_of-removed : (old new : List (List ℕ × File)) (path : List ℕ)
+    → ((q : List ℕ) → lookup (is_at (by_path q)) new ≡ cond (is_at (by_path path) q) None (lookup (is_at (by_path q)) old))
+    → tree_of new ≡ map.remove (tree_of old) path
+tree_of-removed old new path updates =
+    map.same_map nat_list_cmp_total distinct (tree_of new) (map.remove (tree_of old) path)
+    (λ q. changed old new path None q (updates q) ∙ sym (map.get-remove nat_list_cmp_total (tree_of old) path q))
 
 -- what a map's look-up found is what the finite map has
 pub found-in : (es : List (List ℕ × File)) (files : Tree) (path : List ℕ) (found : Option File) → tree_of es ≡ files → found ≡ lookup (is_at (by_path path)) es → found ≡ map.get files path
@@ -59,7 +74,7 @@ same-cond : (b : Bool) (x y : Option File) → (b ≡ true → x ≡ y) → cond
 same-cond true x y h = h refl
 same-cond false x y h = refl
 
-is_eq-Equal : (o : Ordering) → is_eq o ≡ true → o ≡ Equal
+pub is_eq-Equal : (o : Ordering) → is_eq o ≡ true → o ≡ Equal
 is_eq-Equal Less e = cc
 is_eq-Equal Equal e = refl
 is_eq-Equal Greater e = cc

@@ -29,13 +29,13 @@ state_code file =
     code_by (Tree × (List ℕ × Option (List ℕ))) (coded× (map.code (coded_list coded_ℕ) file) (coded× (coded_list coded_ℕ) (coded_option (coded_list coded_ℕ))))
     (λ s. (s.files, (s.folder, s.ef))) (λ p. record { files = p.0; folder = p.1.0; ef = p.1.1 }) (λ _. refl)
 
+-- the octets that the EFs among these files hold
+abbrev pub total_of : List File → ℕ
+total_of files = sum_by size_of files
+
 -- the room that all EFs take
 abbrev pub room_of : Tree → ℕ
-room_of files = sum_by (λ (entry : List ℕ × File). size_of entry.1) (map.entries files)
-
--- the octets that the EFs among these entries hold
-abbrev pub total_of : List (List ℕ × File) → ℕ
-total_of entries = sum_by (λ (entry : List ℕ × File). size_of entry.1) entries
+room_of files = total_of (map.values files)
 
 -- a path names a folder, or an EF, of these files
 abbrev pub is_ef_at : Tree → List ℕ → Bool

@@ -6,6 +6,9 @@ ghost use Rattle.card_files.specs.Path.{word_at, ids_of};
 ghost use Rattle.card_files.specs.Replies.{Replies};
 ghost use Rattle.card_files.specs.Commands as command;
 ghost use Rattle.card_files.specs.Kind.{HasOctets};
+ghost use Rattle.card_files.specs.State.{room_of};
+ghost use Rattle.card_files.specs.declared.limits.TheConstants.{FILES_ROOM};
+ghost use Rattle.file_records.specs.File.{size_in};
 ghost use Rattle.std.specs.FinMap as map;
 ghost use Rattle.file_records.specs.Made.{Gives, MakesAndGives};
 
@@ -195,6 +198,7 @@ impl Files {
         ensures wanted { result ≡ command.wanted self.now p1 p2 (length octets.now) octets.now }
         ensures free { IfOk result (λ new. map.get self.now.files new.path ≡ None) }
         ensures some { IfOk result (λ new. HasOctets new.kind) }
+        ensures room { IfOk result (λ new. room_of self.now.files + size_in (command.contents_of new.kind) ≤ FILES_ROOM) }
     {
         if !(p1 == 0 && p2 == 0) {
             return Err(Refusal::WrongParameters);
@@ -236,6 +240,7 @@ impl Files {
     fn add(&mut self, new: NewFile) -> Result<(), Memory>
         requires free { map.get self.old.files new.path ≡ None }
         requires some { HasOctets new.kind }
+        requires room { room_of self.old.files + size_in (command.contents_of new.kind) ≤ FILES_ROOM }
         ensures ok { IfOk result (λ _. self.new ≡ command.with_new self.old new.path (command.contents_of new.kind)) }
         ensures err { OnErr result (self.new ≡ self.old) }
     {
@@ -517,6 +522,7 @@ fn reply_to(outcome: Result<Out, Refusal>) -> Reply
 fn kind_of(depth: usize, kind: u8, width: u8, size: u16) -> Option<Kind>
     ensures kind { result ≡ command.kind_of depth kind width size }
     ensures some { IfSome result HasOctets }
+    ensures size { IfSome result (λ kind. size_in (command.contents_of kind) ≡ size) }
 {
     if kind == 1 && width == 0 && size == 0 && depth < FOLDERS_DEEP {
         return Some(Kind::Folder);

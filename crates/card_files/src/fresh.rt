@@ -1,8 +1,11 @@
 //! The files of a new card.
 
-ghost use Rattle.std.specs.Prelude.{◌≡◌, ◌<◌, ◌≤◌, length, IfOk};
+ghost use Rattle.std.specs.Prelude.{◌≡◌, ◌+◌, ◌*◌, ◌<◌, ◌≤◌, length, IfOk};
+ghost use Rattle.std.specs.BTreeMap.{values};
 ghost use Rattle.std.specs.FinMap as map;
 ghost use Rattle.card_files.specs.Path.{ids_of};
+ghost use Rattle.file_records.specs.File.{size_in};
+ghost use Rattle.card_files.specs.State.{total_of};
 ghost use Rattle.card_files.specs.Fresh.{with_new, rows_with, octets_with, fresh_files};
 
 use crate::path::Path;
@@ -46,7 +49,8 @@ fn add(
     contents: Contents,
 ) -> Result<(), Memory>
     requires { length path.now ≤ 8 }
-    ensures { IfOk result (λ _. map.from_entries files.new.entries ≡ with_new (map.from_entries files.old.entries) (ids_of path.now) remote contents) }
+    ensures room { IfOk result (λ _. total_of (values files.new) ≤ total_of (values files.old) + size_in contents) }
+    ensures added { IfOk result (λ _. map.from_entries files.new.entries ≡ with_new (map.from_entries files.old.entries) (ids_of path.now) remote contents) }
 {
     let file = File {
         remote,
@@ -60,7 +64,8 @@ fn add(
 /// A transparent EF's octets.
 #[tactic(auto, unfolding(crate::specs::Fresh::octets_with))]
 fn octets(alloc: Global, size: usize) -> Result<Contents, Memory>
-    ensures { IfOk result (λ contents. contents ≡ Contents.Transparent (octets_with size)) }
+    ensures contents { IfOk result (λ contents. contents ≡ Contents.Transparent (octets_with size)) }
+    ensures size { IfOk result (λ contents. size_in contents ≡ size) }
 {
     let binary = Binary::filled(alloc, size, 0xFF)?;
     Ok(Contents::Transparent(binary))
@@ -70,7 +75,8 @@ fn octets(alloc: Global, size: usize) -> Result<Contents, Memory>
 #[tactic(auto, unfolding(crate::specs::Fresh::rows_with))]
 fn counter(alloc: Global, width: u8, count: u8) -> Result<Contents, Memory>
     requires { 0 < count }
-    ensures { IfOk result (λ contents. contents ≡ Contents.Cyclic (rows_with width count 0)) }
+    ensures contents { IfOk result (λ contents. contents ≡ Contents.Cyclic (rows_with width count 0)) }
+    ensures size { IfOk result (λ contents. size_in contents ≡ width * count) }
 {
     let records = Records::filled(alloc, width, count, 0)?;
     Ok(Contents::Cyclic(records))
@@ -80,7 +86,8 @@ fn counter(alloc: Global, width: u8, count: u8) -> Result<Contents, Memory>
 #[tactic(auto, unfolding(crate::specs::Fresh::rows_with))]
 fn records(alloc: Global, width: u8, count: u8) -> Result<Contents, Memory>
     requires { 0 < count }
-    ensures { IfOk result (λ contents. contents ≡ Contents.Linear (rows_with width count 255)) }
+    ensures contents { IfOk result (λ contents. contents ≡ Contents.Linear (rows_with width count 255)) }
+    ensures size { IfOk result (λ contents. size_in contents ≡ width * count) }
 {
     let records = Records::filled(alloc, width, count, 0xFF)?;
     Ok(Contents::Linear(records))

@@ -1,6 +1,7 @@
 //! The files of a card by their paths.
 
-ghost use Rattle.std.specs.Prelude.{◌≡◌, ◌+◌, ◌^◌, ◌<◌, ◌≤◌, ◌-◌, ◌&&◌, min, nat_lt, nat_le, None, is_some, not, option_copied, IfSome, IfOk, OnErr};
+ghost use Rattle.std.specs.Prelude.{◌≡◌, ◌+◌, ◌^◌, ◌<◌, ◌≤◌, ◌&&◌, ℕ, List, true, nat_lt, nat_le, None, is_some, not, option_copied, option_map, unwrap_or, IfSome, IfNone, IfOk, OnErr};
+ghost use Rattle.std.specs.BTreeMap.{values};
 ghost use Rattle.std.specs.FinMap as map;
 ghost use Rattle.file_records.specs.File.{size_of};
 ghost use Rattle.card_files.specs.State.{total_of};
@@ -15,8 +16,12 @@ use ota_core::Memory;
 use std::alloc::Global;
 use std::collections::BTreeMap;
 use std::marker::Model;
+use std::ops::Bound;
 
 /// The files of a card by their paths, seen as a finite map.
+///
+/// In the order of paths those below a file stand right behind it. How many files there are is kept by
+/// the map, and what they take of the card's room beside it.
 #[derive(Drop)]
 pub(crate) struct Tree {
     files: BTreeMap<Path, File>,
@@ -27,8 +32,10 @@ impl Model for Tree {
     ghost use Rattle.std.specs.FinMap as map;
     ghost use Rattle.std.specs.Coded.{coded_ℕ, coded_list};
     ghost use Rattle.file_records.specs.contracts.file.File as file;
-    ghost use Rattle.std.specs.Prelude.{◌≡◌, ◌-◌, ◌^◌, min};
+    ghost use Rattle.std.specs.Prelude.{◌≡◌, ◌≤◌};
+    ghost use Rattle.std.specs.BTreeMap.{values};
     ghost use Rattle.card_files.specs.State.{Tree, total_of};
+    ghost use Rattle.card_files.specs.declared.limits.TheConstants.{FILES_ROOM};
 
     ghost Value = { Tree };
 
@@ -36,7 +43,7 @@ impl Model for Tree {
 
     ghost view = { λ tree. map.from_entries tree.files.entries };
 
-    ghost invariant = { λ tree. tree.taken ≡ min (total_of tree.files.entries) (2 ^ 64 - 1) };
+    ghost invariant = { λ tree. (tree.taken ≡ total_of (values tree.files)) × (tree.taken ≤ FILES_ROOM) };
 }
 
 impl Tree {
@@ -44,8 +51,9 @@ impl Tree {
     ghost use Rattle.card_files.specs.Commands as command;
     ghost use Rattle.card_files.specs.State.{room_of, is_remote_at, is_folder_at, is_ef_at, file_in, folder_in, ef_in, changed_at, changed_giving};
 
-    /// The files of a map.
+    /// The files of a map, whose octets have room on a card.
     pub(crate) fn of(files: BTreeMap<Path, File>) -> Tree
+        requires { total_of (values files) ≤ FILES_ROOM }
         ensures { result ≡ map.from_entries files.entries }
     {
         let taken = total(&files);
@@ -61,13 +69,14 @@ impl Tree {
 
     /// Puts a file beside the others.
     pub(crate) fn insert(&mut self, path: Path, file: File) -> Result<(), Memory>
-        requires { map.get self.old path ≡ None }
+        requires free { map.get self.old path ≡ None }
+        requires room { room_of self.old + size_of file ≤ FILES_ROOM }
         ensures ok { IfOk result (λ _. self.new ≡ map.insert self.old path file) }
         ensures err { OnErr result (self.new ≡ self.old) }
     {
-        let taken = self.taken.saturating_add(size(&file));
+        let size = size(&file);
         self.files.insert(path, file)?;
-        self.taken = taken;
+        self.taken += size;
         Ok(())
     }
 
@@ -75,9 +84,7 @@ impl Tree {
     pub(crate) fn has_room(&self, size: u16) -> bool
         ensures { result ≡ (nat_lt (map.len self.now) FILES && nat_le (room_of self.now + size) FILES_ROOM) }
     {
-        let count = self.files.len();
-        let more = self.taken.saturating_add(u64::from(size));
-        fit(count, more)
+        fit(self.files.len(), self.taken + u64::from(size))
     }
 
     /// Whether the path is that of a file that may be managed remotely.
@@ -95,16 +102,53 @@ impl Tree {
         ensures { result ≡ command.all_remote self.now path.now }
     {
         self.files
-            .iter()
-            .all(|(other, file)| !path.holds(other) || file.remote)
+            .range((Bound::Included(path), Bound::Unbounded))
+            .take_while(|(other, _)| path.holds(other))
+            .all(|(_, file)| file.remote)
     }
 
     /// Takes the files with this path or below it away.
     pub(crate) fn remove(&mut self, path: &Path)
         ensures { self.new ≡ map.retain_keys self.old (λ other. not (command.is_within path.now other)) }
     {
-        self.files.retain(|other, _| !path.holds(other));
-        self.taken = total(&self.files);
+        while let Some(within) = self.first_within(path) {
+            self.take(&within);
+        }
+    }
+
+    /// The path of the first file with this path or below it.
+    fn first_within(&self, path: &Path) -> Option<Path>
+        ensures found { IfSome result (λ within. command.is_within path.now within ≡ true) }
+        ensures there { IfSome result (λ within. is_some (map.get self.now within) ≡ true) }
+        ensures none { IfNone result ((other : List ℕ) → command.is_within path.now other ≡ true → map.get self.now other ≡ None) }
+    {
+        match self
+            .files
+            .range((Bound::Included(path), Bound::Unbounded))
+            .next()
+        {
+            Some((other, _)) if path.holds(other) => Some(other.copied()),
+            _ => None,
+        }
+    }
+
+    /// Takes the file with this path away, and none below it.
+    fn take(&mut self, path: &Path)
+        ensures { self.new ≡ map.remove self.old path.now }
+    {
+        let size = self.size_at(path);
+        self.files.remove(path);
+        self.taken -= size;
+    }
+
+    /// What the file with this path takes of the card's room.
+    fn size_at(&self, path: &Path) -> u64
+        ensures { result ≡ unwrap_or (option_map size_of (map.get self.now path.now)) 0 }
+    {
+        match self.get(path) {
+            Some(file) => size(file),
+            None => 0,
+        }
     }
 
     /// Whether there is a file with this path.
@@ -252,13 +296,14 @@ fn size(file: &File) -> u64
     }
 }
 
-/// The octets that all EFs hold, as far as 64 bits go.
+/// The octets that all EFs hold.
 fn total(files: &BTreeMap<Path, File>) -> u64
-    ensures { result ≡ min (total_of files.now.entries) (2 ^ 64 - 1) }
+    requires { total_of (values files.now) ≤ FILES_ROOM }
+    ensures { result ≡ total_of (values files.now) }
 {
-    let mut total = 0u64;
-    for (_, file) in files.iter() {
-        total = total.saturating_add(size(file));
+    let mut total = 0;
+    for file in files.values() {
+        total += size(file);
     }
     total
 }

@@ -1,7 +1,9 @@
-use Rattle.std.proofs.Common.{ap, ◌∙◌}
+use Rattle.std.proofs.Common.{◌≡◌, sym, ap, ◌∙◌, arith}
+use Rattle.std.specs.BTreeMap.{values}
 use Rattle.std.specs.FinMap as map
-use Rattle.card_files.specs.State.{Tree}
-use Rattle.card_files.proofs.RoomLemmas.{total-inserted}
+use Rattle.file_records.specs.File.{size_of}
+use Rattle.card_files.specs.State.{Tree, room_of, total_of}
+use Rattle.card_files.proofs.RoomLemmas.{held-inserted, room-tree_of}
 use Rattle.card_files.proofs.TreeLemmas.{tree_of-updated}
 use Rattle.card_files.proofs.tree.Tree.insert.Goals as goal
 
@@ -12,5 +14,11 @@ returns-clause-ok c = let h = c.in_ok-insert.ensures.updates in
 
 pub invariant_of-self-2 : goal.invariant_of-self-2
 invariant_of-self-2 c =
-    total-inserted c.self.inside.files.entries c.insert.new.self.entries c.args.self.now c.args.path c.args.file c.self.inside.taken c.size.result c.saturating_add-taken.result
-    c.self.view_is c.requires c.in_ok-insert.ensures.entries c.self.invariant c.size.ensures c.saturating_add-taken.ensures
+    let es = c.self.inside.files.entries in
+    let sorted = c.in_ok-insert.ensures.was_ordered in
+    let grown = held-inserted es c.insert.new.self.entries c.args.self.now c.args.path c.args.file c.self.view_is c.requires.free sorted c.in_ok-insert.ensures.entries in
+    let taken : c.self.inside.taken ≡ room_of c.args.self.now = c.self.invariant.0 ∙ sym (room-tree_of es sorted) ∙ ap room_of c.self.view_is in
+    let size : c.size-size.result ≡ size_of c.args.file = c.size-size.ensures in
+    let held : c.self.inside.taken ≡ total_of (values c.self.inside.files) = c.self.invariant.0 in
+    let room = c.requires.room in
+    (omega (arith, grown, size, held), omega (arith, taken, size, room))

@@ -1,8 +1,8 @@
-use Rattle.std.proofs.Common.{ℕ, List, ap, ◌∙◌}
+use Rattle.std.proofs.Common.{ℕ, List, sym, ap, ◌∙◌}
 use Rattle.std.specs.BTreeMap.{BTreeMap}
 use Rattle.file_records.specs.declared.file.File.{File}
 use Rattle.file_records.specs.File.{record_pushed}
-use Rattle.card_files.proofs.RoomLemmas.{total-written}
+use Rattle.card_files.proofs.RoomLemmas.{held-written}
 use Rattle.card_files.proofs.TreeLemmas.{tree_of, found-in, lent, changed-none, changed-some}
 use Rattle.card_files.proofs.tree.Tree.push_record.Goals as goal
 
@@ -27,4 +27,5 @@ returns c =
 pub invariant_of-self-2 : goal.invariant_of-self-2
 invariant_of-self-2 c =
     let new = c.push_record.new.self in
-    total-written c.self.inside.files (c.get_mut.follows.lender new) c.args.path.now c.in-Some.file.now new c.self.inside.taken c.in-Some.ensures.value (c.get_mut.follows.holds new) c.push_record.ensures.keeps.size c.self.invariant
+    let same = held-written c.self.inside.files (c.get_mut.follows.lender new) c.args.path.now c.in-Some.file.now new c.in-Some.ensures.value (c.get_mut.follows.holds new) c.push_record.ensures.keeps.size in
+    (c.self.invariant.0 ∙ sym same, c.self.invariant.1)

@@ -1,16 +1,19 @@
-use Rattle.std.proofs.Common.{◌≡◌, ℕ, Bool, not, List, filter, ap, ◌∙◌, rules}
+use Rattle.std.proofs.Common.{◌<◌, sym, ap, subst, ◌∙◌}
 use Rattle.std.specs.FinMap as map
-use Rattle.std.proofs.lemmas.Map.Made.{filter_same_pairs}
-use Rattle.file_records.specs.declared.file.File.{File}
 use Rattle.card_files.specs.State.{Tree}
-use Rattle.card_files.specs.Commands as command
-use Rattle.card_files.proofs.TreeLemmas.{tree_of}
-use Rattle.card_files.proofs.EntriesLemmas.{tree_of-kept}
+use Rattle.card_files.proofs.WithinLemmas.{stays, kept-removed, kept-all, fewer}
 use Rattle.card_files.proofs.tree.Tree.remove.Goals as goal
 
+pub loop-within-smaller : goal.loop-within-smaller
+loop-within-smaller c =
+    let P : Tree → Type 0 = λ t. map.len t < map.len c.loop-within.self in
+    subst P (sym c.take.ensures) (fewer c.in-Some.within c.loop-within.self c.in-Some.ensures.there)
+
+pub loop-within-preserved : goal.loop-within-preserved
+loop-within-preserved c =
+    ap (λ (t : Tree). map.retain_keys t (stays c.args.path.now)) c.take.ensures
+    ∙ kept-removed c.args.path.now c.in-Some.within c.loop-within.self c.in-Some.ensures.found
+    ∙ c.loop-within.invariant
+
 pub returns : goal.returns
-returns c =
-    let es = c.self.inside.files.entries in
-    let stays : List ℕ → Bool = λ other. not (command.is_within c.args.path.now other) in
-    let kept : c.retain.new.self.entries ≡ filter (λ (e : List ℕ × File). stays e.0) es = filter_same_pairs _ (λ e. stays e.0) _ (λ k v b w f' t. search rules) _ _ c.retain.ensures.filtered in
-    ap tree_of kept ∙ tree_of-kept es stays ∙ ap (λ (t : Tree). map.retain_keys t stays) c.self.view_is
+returns c = sym (kept-all c.args.path.now c.loop-within.self c.in_default.ensures.none) ∙ c.loop-within.invariant
