@@ -16,7 +16,6 @@ use ota_core::Memory;
 use std::alloc::Global;
 use std::collections::BTreeMap;
 use std::marker::Model;
-use std::ops::Bound;
 
 /// The files of a card by their paths, seen as a finite map.
 ///
@@ -102,7 +101,7 @@ impl Tree {
         ensures { result ≡ command.all_remote self.now path.now }
     {
         self.files
-            .range((Bound::Included(path), Bound::Unbounded))
+            .range(path..)
             .take_while(|(other, _)| path.holds(other))
             .all(|(_, file)| file.remote)
     }
@@ -122,11 +121,7 @@ impl Tree {
         ensures there { IfSome result (λ within. is_some (map.get self.now within) ≡ true) }
         ensures none { IfNone result ((other : List ℕ) → command.is_within path.now other ≡ true → map.get self.now other ≡ None) }
     {
-        match self
-            .files
-            .range((Bound::Included(path), Bound::Unbounded))
-            .next()
-        {
+        match self.files.range(path..).next() {
             Some((other, _)) if path.holds(other) => Some(other.copied()),
             _ => None,
         }
