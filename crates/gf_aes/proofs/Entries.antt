@@ -4,7 +4,7 @@ use Rattle.std.specs.Prelude.{slice_index, bit_xor}
 use Rattle.std.proofs.lemmas.List.{get_or-map}
 use Rattle.std.proofs.lemmas.List.FromFn.{get_or-map-range_with_len}
 use Rattle.gf_aes.specs.Field.{xtime, times_below, times, octet_values, inverse, affine_bit, affine, sub_byte, affine_inverse, inverse_sub_byte}
-use Rattle.gf_aes.specs.Cipher.{octets, octet, word_of, diagonal, xor_lists, mix_column, inverse_mix_column, matrix_times, sub_word}
+use Rattle.gf_aes.specs.Cipher.{octets, octet, word_of, diagonal, xor_lists, mix_column, inverse_mix_column, matrix_times, multiples, sub_word}
 use Rattle.gf_aes.specs.declared.tables.TheConstants.{S_BOX, INVERSE_S_BOX, MIX, INVERSE_MIX}
 use Rattle.gf_aes.proofs.Words.{octets-xor, octets-word_of, octet_below}
 
@@ -49,10 +49,6 @@ inverse_sub_byte-sub_byte i h =
     let e : slice_index INVERSE_S_BOX (slice_index S_BOX i) ≡ i = tested S_BOX (slice_index INVERSE_S_BOX) (λ j. j) refl refl i h in
     sym (INVERSE_S_BOX-at (sub_byte i) (sub_byte-below i h)) ∙ ap (slice_index INVERSE_S_BOX) (sym (S_BOX-at i h)) ∙ e
 
--- the products of four factors with one octet
-abbrev multiples : ℕ → ℕ → ℕ → ℕ → ℕ → List ℕ
-multiples a b c d s = times a s ∷ times b s ∷ times c s ∷ times d s ∷ []
-
 -- a table of words that lists a column for each entry of another table
 columns : (table box : List ℕ) (f : ℕ → List ℕ) → map octets table ≡ map f box → length table ≡ 256 → length box ≡ 256 → (i : ℕ) → i < 256 → octets (slice_index table i) ≡ f (slice_index box i)
 columns table box f e len len' i h =
@@ -60,19 +56,19 @@ columns table box f e len len' i h =
     let l' : i < length box = omega arith in
     sym (get_or-map octets table i 0 [] l) ∙ ap (λ t. get_or t i []) e ∙ get_or-map f box i 0 [] l'
 
-MIX_0-at : (i : ℕ) → i < 256 → octets (slice_index (get_or MIX 0 []) i) ≡ multiples 2 1 1 3 (sub_byte i)
+pub MIX_0-at : (i : ℕ) → i < 256 → octets (slice_index (get_or MIX 0 []) i) ≡ multiples 2 1 1 3 (sub_byte i)
 unfolding xtime times_below times
 MIX_0-at i h = columns (get_or MIX 0 []) S_BOX (multiples 2 1 1 3) refl refl refl i h ∙ ap (multiples 2 1 1 3) (S_BOX-at i h)
 
-MIX_1-at : (i : ℕ) → i < 256 → octets (slice_index (get_or MIX 1 []) i) ≡ multiples 3 2 1 1 (sub_byte i)
+pub MIX_1-at : (i : ℕ) → i < 256 → octets (slice_index (get_or MIX 1 []) i) ≡ multiples 3 2 1 1 (sub_byte i)
 unfolding xtime times_below times
 MIX_1-at i h = columns (get_or MIX 1 []) S_BOX (multiples 3 2 1 1) refl refl refl i h ∙ ap (multiples 3 2 1 1) (S_BOX-at i h)
 
-MIX_2-at : (i : ℕ) → i < 256 → octets (slice_index (get_or MIX 2 []) i) ≡ multiples 1 3 2 1 (sub_byte i)
+pub MIX_2-at : (i : ℕ) → i < 256 → octets (slice_index (get_or MIX 2 []) i) ≡ multiples 1 3 2 1 (sub_byte i)
 unfolding xtime times_below times
 MIX_2-at i h = columns (get_or MIX 2 []) S_BOX (multiples 1 3 2 1) refl refl refl i h ∙ ap (multiples 1 3 2 1) (S_BOX-at i h)
 
-MIX_3-at : (i : ℕ) → i < 256 → octets (slice_index (get_or MIX 3 []) i) ≡ multiples 1 1 3 2 (sub_byte i)
+pub MIX_3-at : (i : ℕ) → i < 256 → octets (slice_index (get_or MIX 3 []) i) ≡ multiples 1 1 3 2 (sub_byte i)
 unfolding xtime times_below times
 MIX_3-at i h = columns (get_or MIX 3 []) S_BOX (multiples 1 1 3 2) refl refl refl i h ∙ ap (multiples 1 1 3 2) (S_BOX-at i h)
 
@@ -109,10 +105,10 @@ unfolding sub_word
 sub_word-of w =
     rw (S_BOX-at (octet w 0) (octet_below (w / 2 ^ 24)), S_BOX-at (octet w 1) (octet_below (w / 2 ^ 16)), S_BOX-at (octet w 2) (octet_below (w / 2 ^ 8)), S_BOX-at (octet w 3) (octet_below w)) refl
 
-pub round_word-of : (a b c d k : ℕ) → octets (bit_xor (bit_xor (bit_xor (bit_xor (slice_index (get_or MIX 0 []) (octet a 0)) (slice_index (get_or MIX 1 []) (octet b 1))) (slice_index (get_or MIX 2 []) (octet c 2))) (slice_index (get_or MIX 3 []) (octet d 3))) k) ≡ xor_lists (mix_column (map sub_byte (diagonal a b c d))) (octets k)
-round_word-of a b c d k =
-    keyed _ k (mix_column (map sub_byte (diagonal a b c d))) (
-    summed 2 3 1 1 _ _ _ _ _ _ _ _ (MIX_0-at (octet a 0) (octet_below (a / 2 ^ 24))) (MIX_1-at (octet b 1) (octet_below (b / 2 ^ 16))) (MIX_2-at (octet c 2) (octet_below (c / 2 ^ 8))) (MIX_3-at (octet d 3) (octet_below d))
+pub round_word-of : (x0 x1 x2 x3 t0 t1 t2 t3 k : ℕ) → octets t0 ≡ multiples 2 1 1 3 (sub_byte x0) → octets t1 ≡ multiples 3 2 1 1 (sub_byte x1) → octets t2 ≡ multiples 1 3 2 1 (sub_byte x2) → octets t3 ≡ multiples 1 1 3 2 (sub_byte x3) → octets (bit_xor (bit_xor (bit_xor (bit_xor t0 t1) t2) t3) k) ≡ xor_lists (mix_column (map sub_byte (x0 ∷ x1 ∷ x2 ∷ x3 ∷ []))) (octets k)
+round_word-of x0 x1 x2 x3 t0 t1 t2 t3 k e0 e1 e2 e3 =
+    keyed (bit_xor (bit_xor (bit_xor t0 t1) t2) t3) k (mix_column (map sub_byte (x0 ∷ x1 ∷ x2 ∷ x3 ∷ []))) (
+    summed 2 3 1 1 (sub_byte x0) (sub_byte x1) (sub_byte x2) (sub_byte x3) t0 t1 t2 t3 e0 e1 e2 e3
     )
 
 pub inverse_round_word-of : (a b c d k : ℕ) → octets (bit_xor (bit_xor (bit_xor (bit_xor (slice_index (get_or INVERSE_MIX 0 []) (octet a 0)) (slice_index (get_or INVERSE_MIX 1 []) (octet b 1))) (slice_index (get_or INVERSE_MIX 2 []) (octet c 2))) (slice_index (get_or INVERSE_MIX 3 []) (octet d 3))) k) ≡ xor_lists (inverse_mix_column (map inverse_sub_byte (diagonal a b c d))) (octets k)

@@ -139,6 +139,7 @@ expanded key w m kind h e mixed =
     record {
       some = omega arith;
       most = omega arith;
+      even = omega arith;
       expanded = e ∙ ap key_words (sym (key-of_words key w kind h e));
       mixed = mixed;
     }

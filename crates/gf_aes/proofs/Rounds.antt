@@ -15,30 +15,35 @@ block_of-add w r a b c d =
 abbrev IsRoundWord : ℕ → ℕ → ℕ → ℕ → ℕ → ℕ → Type 0
 IsRoundWord t a b c d k = octets t ≡ xor_lists (mix_column (map sub_byte (diagonal a b c d))) (octets k)
 
-pub rounds_more : (w s : List ℕ) (r a b c d ta tb tc td : ℕ) → block_of (a ∷ b ∷ c ∷ d ∷ []) ≡ rounds w s r
-    → IsRoundWord ta a b c d (slice_index w (4 * (r + 1)))
-    → IsRoundWord tb b c d a (slice_index w (4 * (r + 1) + 1))
-    → IsRoundWord tc c d a b (slice_index w (4 * (r + 1) + 2))
-    → IsRoundWord td d a b c (slice_index w (4 * (r + 1) + 3))
-    → block_of (ta ∷ tb ∷ tc ∷ td ∷ []) ≡ rounds w s (r + 1)
-unfolding rounds
-rounds_more w s r a b c d ta tb tc td before ea eb ec ed =
-    (λ i. ea i ++ eb i ++ ec i ++ ed i)
-    ∙ ap (λ u. add_round_key w (mix_columns (shift_rows (sub_bytes u))) (r + 1)) before
-    ∙ ap (λ n. rounds w s n) (sym (add-one r))
+pub round-of : (w : List ℕ) (r a b c d ta tb tc td : ℕ)
+    → IsRoundWord ta a b c d (slice_index w (4 * r))
+    → IsRoundWord tb b c d a (slice_index w (4 * r + 1))
+    → IsRoundWord tc c d a b (slice_index w (4 * r + 2))
+    → IsRoundWord td d a b c (slice_index w (4 * r + 3))
+    → block_of (ta ∷ tb ∷ tc ∷ td ∷ []) ≡ add_round_key w (mix_columns (shift_rows (sub_bytes (block_of (a ∷ b ∷ c ∷ d ∷ []))))) r
+round-of w r a b c d ta tb tc td ea eb ec ed = λ i. ea i ++ eb i ++ ec i ++ ed i
 
 abbrev IsLastWord : ℕ → ℕ → ℕ → ℕ → ℕ → ℕ → Type 0
 IsLastWord t a b c d k = octets t ≡ xor_lists (map sub_byte (diagonal a b c d)) (octets k)
 
-pub cipher_end : (w s : List ℕ) (n a b c d ta tb tc td : ℕ) → block_of (a ∷ b ∷ c ∷ d ∷ []) ≡ rounds w s (n - 1)
-    → IsLastWord ta a b c d (slice_index w (4 * n))
-    → IsLastWord tb b c d a (slice_index w (4 * n + 1))
-    → IsLastWord tc c d a b (slice_index w (4 * n + 2))
-    → IsLastWord td d a b c (slice_index w (4 * n + 3))
-    → block_of (ta ∷ tb ∷ tc ∷ td ∷ []) ≡ cipher w n s
+pub last_round-of : (w : List ℕ) (r a b c d ta tb tc td : ℕ)
+    → IsLastWord ta a b c d (slice_index w (4 * r))
+    → IsLastWord tb b c d a (slice_index w (4 * r + 1))
+    → IsLastWord tc c d a b (slice_index w (4 * r + 2))
+    → IsLastWord td d a b c (slice_index w (4 * r + 3))
+    → block_of (ta ∷ tb ∷ tc ∷ td ∷ []) ≡ add_round_key w (shift_rows (sub_bytes (block_of (a ∷ b ∷ c ∷ d ∷ [])))) r
+last_round-of w r a b c d ta tb tc td ea eb ec ed = λ i. ea i ++ eb i ++ ec i ++ ed i
+
+-- one round more
+pub rounds_more : (w s t u : List ℕ) (r n : ℕ) → n ≡ r + 1 → t ≡ rounds w s r → u ≡ add_round_key w (mix_columns (shift_rows (sub_bytes t))) n → u ≡ rounds w s n
+unfolding rounds
+rounds_more w s t u r n next before e =
+    e ∙ (λ i. add_round_key w (mix_columns (shift_rows (sub_bytes (before i)))) (next i))
+    ∙ ap (λ n. rounds w s n) (sym (next ∙ add-one r))
+
+pub cipher_end : (w s t u : List ℕ) (n : ℕ) → t ≡ rounds w s (n - 1) → u ≡ add_round_key w (shift_rows (sub_bytes t)) n → u ≡ cipher w n s
 unfolding cipher
-cipher_end w s n a b c d ta tb tc td before ea eb ec ed =
-    (λ i. ea i ++ eb i ++ ec i ++ ed i) ∙ ap (λ u. add_round_key w (shift_rows (sub_bytes u)) n) before
+cipher_end w s t u n before e = e ∙ ap (λ v. add_round_key w (shift_rows (sub_bytes v)) n) before
 
 -- the word of a full round of the equivalent inverse cipher, with the mixed word m of k
 abbrev IsInverseWord : ℕ → ℕ → ℕ → ℕ → ℕ → ℕ → Type 0

@@ -21,6 +21,10 @@ word_of a b c d = a * 2 ^ 24 + b * 2 ^ 16 + c * 2 ^ 8 + d
 abbrev pub block_of : List ℕ → List ℕ
 block_of w = octets (slice_index w 0) ++ octets (slice_index w 1) ++ octets (slice_index w 2) ++ octets (slice_index w 3)
 
+-- the four words of two halves of two words each, the first word higher
+abbrev pub columns_of : List ℕ → List ℕ
+columns_of h = (slice_index h 0 / 2 ^ 32) ∷ (slice_index h 0 % 2 ^ 32) ∷ (slice_index h 1 / 2 ^ 32) ∷ (slice_index h 1 % 2 ^ 32) ∷ []
+
 -- one octet from each of four words: the first of a, the second of b, and so on
 abbrev pub diagonal : ℕ → ℕ → ℕ → ℕ → List ℕ
 diagonal a b c d = octet a 0 ∷ octet b 1 ∷ octet c 2 ∷ octet d 3 ∷ []
@@ -59,6 +63,10 @@ row_times a b c d s = bit_xor (bit_xor (bit_xor (times a (slice_index s 0)) (tim
 -- turned by one place (4.3)
 abbrev pub matrix_times : ℕ → ℕ → ℕ → ℕ → List ℕ → List ℕ
 matrix_times a b c d s = row_times a b c d s ∷ row_times d a b c s ∷ row_times c d a b s ∷ row_times b c d a s ∷ []
+
+-- the products of four factors with one octet: what it gives to a column through a matrix
+abbrev pub multiples : ℕ → ℕ → ℕ → ℕ → ℕ → List ℕ
+multiples a b c d s = times a s ∷ times b s ∷ times c s ∷ times d s ∷ []
 
 -- MixColumns of one column (5.1.3)
 abbrev pub mix_column : List ℕ → List ℕ

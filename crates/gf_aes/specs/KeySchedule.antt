@@ -1,5 +1,5 @@
 -- What the fields of a key schedule mean.
-use Rattle.std.specs.Prelude.{◌≡◌, ℕ, ◌+◌, ◌-◌, ◌*◌, ◌≤◌, List, flat_map, take}
+use Rattle.std.specs.Prelude.{◌≡◌, ℕ, ◌+◌, ◌-◌, ◌*◌, ◌%◌, ◌≤◌, List, flat_map, take}
 use Rattle.gf_aes.specs.declared.key_schedule.KeySchedule.TheInside.{Inside}
 use Rattle.gf_aes.specs.Cipher.{IsMixed, key_words, octets}
 
@@ -11,5 +11,6 @@ key_of s = flat_map octets (take (s.rounds - 6) s.words)
 pub record IsExpanded (s : Inside) : Type 0 where
   pub some : 10 ≤ s.rounds
   pub most : s.rounds ≤ 14
+  pub even : s.rounds % 2 ≡ 0
   pub expanded : take (4 * s.rounds + 4) s.words ≡ key_words (key_of s)
   pub mixed : IsMixed s.words s.mixed s.rounds

@@ -1,8 +1,8 @@
 //! One word of a round: a column of the state, from four columns and a word of the round key.
 
-ghost use Rattle.std.specs.Prelude.{◌≡◌, map};
+ghost use Rattle.std.specs.Prelude.{◌≡◌, map, slice_index};
 ghost use Rattle.gf_aes.specs.Field.{inverse_sub_byte, sub_byte};
-ghost use Rattle.gf_aes.specs.Cipher.{diagonal, inverse_mix_column, mix_column, octet, octets, sub_word, word_of, xor_lists};
+ghost use Rattle.gf_aes.specs.Cipher.{diagonal, inverse_mix_column, multiples, octet, octets, sub_word, word_of, xor_lists};
 
 use crate::tables::{INVERSE_MIX, INVERSE_S_BOX, MIX, S_BOX};
 
@@ -55,12 +55,20 @@ pub(crate) fn sub_word(w: u32) -> u32
     )
 }
 
-/// A word of a round with all its steps: the octets at the diagonal of `a`, `b`, `c` and `d`.
+/// The columns that MixColumns makes of a word's octets after the S-box, each from one octet alone.
 #[inline(always)]
-pub(crate) fn round_word(a: u32, b: u32, c: u32, d: u32, key: u32) -> u32
-    ensures { octets result ≡ xor_lists (mix_column (map sub_byte (diagonal a b c d))) (octets key) }
+pub(crate) fn mix_entries(w: u32) -> [u32; 4]
+    ensures first { octets (slice_index result 0) ≡ multiples 2 1 1 3 (sub_byte (octet w 0)) }
+    ensures second { octets (slice_index result 1) ≡ multiples 3 2 1 1 (sub_byte (octet w 1)) }
+    ensures third { octets (slice_index result 2) ≡ multiples 1 3 2 1 (sub_byte (octet w 2)) }
+    ensures fourth { octets (slice_index result 3) ≡ multiples 1 1 3 2 (sub_byte (octet w 3)) }
 {
-    MIX[0][octet_0(a)] ^ MIX[1][octet_1(b)] ^ MIX[2][octet_2(c)] ^ MIX[3][octet_3(d)] ^ key
+    [
+        MIX[0][octet_0(w)],
+        MIX[1][octet_1(w)],
+        MIX[2][octet_2(w)],
+        MIX[3][octet_3(w)],
+    ]
 }
 
 /// A word of the last round, which has no MixColumns.

@@ -129,10 +129,13 @@ impl KeySchedule {
     }
 
     /// Encrypts a block in place: AES (FIPS 197, 5.1).
+    #[inline(always)]
     pub fn encrypt(&self, block: &mut CipherBlock)
         ensures { block.new ≡ aes_encrypts self.now block.old }
     {
-        cipher::encrypt(&self.words, self.rounds, &mut block.columns);
+        let mut columns = block.columns();
+        cipher::encrypt(&self.words, self.rounds, &mut columns);
+        *block = CipherBlock::of(columns);
     }
 
     /// Decrypts a block in place: the inverse of AES (FIPS 197, 5.3).
@@ -141,7 +144,9 @@ impl KeySchedule {
         ensures undoes { (plain : List ℕ) → IsBlock plain
             → block.old ≡ aes_encrypts self.now plain → block.new ≡ plain }
     {
-        cipher::decrypt(&self.words, &self.mixed, self.rounds, &mut block.columns);
+        let mut columns = block.columns();
+        cipher::decrypt(&self.words, &self.mixed, self.rounds, &mut columns);
+        *block = CipherBlock::of(columns);
     }
 
     /// The block after AES (FIPS 197, 5.1).

@@ -6,7 +6,7 @@ use Rattle.gf_aes.proofs.key_schedule.KeySchedule.decrypt.Goals as goal
 
 pub returns : goal.returns
 returns c =
-    let value = c.decrypt.ensures ∙ schedule_decrypts c.self.inside c.args.self.now c.args.block.now _ c.self.invariant c.self.told.0 c.self.view_is c.block.view_is in
+    let value = c.of.ensures ∙ c.decrypt.ensures ∙ schedule_decrypts c.self.inside c.args.self.now c.args.block.now _ c.self.invariant c.self.told.0 c.self.view_is c.columns-columns.ensures in
     record {
       value = value;
       undoes = λ plain is_block e.
