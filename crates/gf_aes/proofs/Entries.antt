@@ -1,11 +1,12 @@
 -- The tables, entry by entry: the S-boxes against the field, the columns against the S-boxes.
 use Rattle.std.proofs.Common.{◌≡◌, ℕ, ◌/◌, ◌^◌, ◌<◌, List, [], ◌∷◌, map, length, get_or, refl, sym, ap, ◌∙◌, arith}
 use Rattle.std.specs.Prelude.{slice_index, bit_xor}
+use Rattle.std.specs.Int.Bits.{xor_zero_l, xor_zero_r}
 use Rattle.std.proofs.lemmas.List.{get_or-map}
 use Rattle.std.proofs.lemmas.List.FromFn.{get_or-map-range_with_len}
 use Rattle.gf_aes.specs.Field.{xtime, times_below, times, octet_values, inverse, affine_bit, affine, sub_byte, affine_inverse, inverse_sub_byte}
 use Rattle.gf_aes.specs.Cipher.{octets, octet, word_of, diagonal, xor_lists, mix_column, inverse_mix_column, matrix_times, multiples, sub_word}
-use Rattle.gf_aes.specs.declared.tables.TheConstants.{S_BOX, INVERSE_S_BOX, MIX, INVERSE_MIX}
+use Rattle.gf_aes.specs.declared.tables.TheConstants.{S_BOX, INVERSE_S_BOX, SUB, MIX, INVERSE_MIX}
 use Rattle.gf_aes.proofs.Words.{octets-xor, octets-word_of, octet_below}
 
 -- a table that lists a function's values has each of them at its place
@@ -55,6 +56,18 @@ columns table box f e len len' i h =
     let l : i < length table = omega arith in
     let l' : i < length box = omega arith in
     sym (get_or-map octets table i 0 [] l) ∙ ap (λ t. get_or t i []) e ∙ get_or-map f box i 0 [] l'
+
+pub SUB_0-at : (i : ℕ) → i < 256 → octets (slice_index (get_or SUB 0 []) i) ≡ sub_byte i ∷ 0 ∷ 0 ∷ 0 ∷ []
+SUB_0-at i h = columns (get_or SUB 0 []) S_BOX (λ s. s ∷ 0 ∷ 0 ∷ 0 ∷ []) refl refl refl i h ∙ ap (λ s. s ∷ 0 ∷ 0 ∷ 0 ∷ []) (S_BOX-at i h)
+
+pub SUB_1-at : (i : ℕ) → i < 256 → octets (slice_index (get_or SUB 1 []) i) ≡ 0 ∷ sub_byte i ∷ 0 ∷ 0 ∷ []
+SUB_1-at i h = columns (get_or SUB 1 []) S_BOX (λ s. 0 ∷ s ∷ 0 ∷ 0 ∷ []) refl refl refl i h ∙ ap (λ s. 0 ∷ s ∷ 0 ∷ 0 ∷ []) (S_BOX-at i h)
+
+pub SUB_2-at : (i : ℕ) → i < 256 → octets (slice_index (get_or SUB 2 []) i) ≡ 0 ∷ 0 ∷ sub_byte i ∷ 0 ∷ []
+SUB_2-at i h = columns (get_or SUB 2 []) S_BOX (λ s. 0 ∷ 0 ∷ s ∷ 0 ∷ []) refl refl refl i h ∙ ap (λ s. 0 ∷ 0 ∷ s ∷ 0 ∷ []) (S_BOX-at i h)
+
+pub SUB_3-at : (i : ℕ) → i < 256 → octets (slice_index (get_or SUB 3 []) i) ≡ 0 ∷ 0 ∷ 0 ∷ sub_byte i ∷ []
+SUB_3-at i h = columns (get_or SUB 3 []) S_BOX (λ s. 0 ∷ 0 ∷ 0 ∷ s ∷ []) refl refl refl i h ∙ ap (λ s. 0 ∷ 0 ∷ 0 ∷ s ∷ []) (S_BOX-at i h)
 
 pub MIX_0-at : (i : ℕ) → i < 256 → octets (slice_index (get_or MIX 0 []) i) ≡ multiples 2 1 1 3 (sub_byte i)
 unfolding xtime times_below times
@@ -117,16 +130,13 @@ inverse_round_word-of a b c d k =
     summed 0x0E 0x0B 0x0D 0x09 _ _ _ _ _ _ _ _ (INVERSE_MIX_0-at (octet a 0) (octet_below (a / 2 ^ 24))) (INVERSE_MIX_1-at (octet b 1) (octet_below (b / 2 ^ 16))) (INVERSE_MIX_2-at (octet c 2) (octet_below (c / 2 ^ 8))) (INVERSE_MIX_3-at (octet d 3) (octet_below d))
     )
 
-pub last_word-of : (a b c d k : ℕ) → octets (bit_xor (word_of (slice_index S_BOX (octet a 0)) (slice_index S_BOX (octet b 1)) (slice_index S_BOX (octet c 2)) (slice_index S_BOX (octet d 3))) k) ≡ xor_lists (map sub_byte (diagonal a b c d)) (octets k)
-last_word-of a b c d k =
-    let h0 = octet_below (a / 2 ^ 24) in
-    let h1 = octet_below (b / 2 ^ 16) in
-    let h2 = octet_below (c / 2 ^ 8) in
-    let h3 = octet_below d in
-    rw (S_BOX-at (octet a 0) h0, S_BOX-at (octet b 1) h1, S_BOX-at (octet c 2) h2, S_BOX-at (octet d 3) h3) (
-    keyed _ k (map sub_byte (diagonal a b c d)) (
-    octets-word_of _ _ _ _ (sub_byte-below (octet a 0) h0) (sub_byte-below (octet b 1) h1) (sub_byte-below (octet c 2) h2) (sub_byte-below (octet d 3) h3)
-    )
+pub last_word-of : (x0 x1 x2 x3 t0 t1 t2 t3 k : ℕ) → octets t0 ≡ sub_byte x0 ∷ 0 ∷ 0 ∷ 0 ∷ [] → octets t1 ≡ 0 ∷ sub_byte x1 ∷ 0 ∷ 0 ∷ [] → octets t2 ≡ 0 ∷ 0 ∷ sub_byte x2 ∷ 0 ∷ [] → octets t3 ≡ 0 ∷ 0 ∷ 0 ∷ sub_byte x3 ∷ [] → octets (bit_xor (bit_xor (bit_xor (bit_xor t0 t1) t2) t3) k) ≡ xor_lists (map sub_byte (x0 ∷ x1 ∷ x2 ∷ x3 ∷ [])) (octets k)
+last_word-of x0 x1 x2 x3 t0 t1 t2 t3 k e0 e1 e2 e3 =
+    keyed (bit_xor (bit_xor (bit_xor t0 t1) t2) t3) k (map sub_byte (x0 ∷ x1 ∷ x2 ∷ x3 ∷ [])) (
+    octets-xor (bit_xor (bit_xor t0 t1) t2) t3
+    ∙ ap (λ u. xor_lists u (octets t3)) (octets-xor (bit_xor t0 t1) t2 ∙ ap (λ u. xor_lists u (octets t2)) (octets-xor t0 t1))
+    ∙ (λ i. xor_lists (xor_lists (xor_lists (e0 i) (e1 i)) (e2 i)) (e3 i))
+    ∙ rw (xor_zero_r (sub_byte x0), xor_zero_r (sub_byte x0), xor_zero_r (sub_byte x0), xor_zero_l (sub_byte x1), xor_zero_r (sub_byte x1), xor_zero_r (sub_byte x1), xor_zero_l (sub_byte x2), xor_zero_r (sub_byte x2), xor_zero_l (sub_byte x3)) refl
     )
 
 pub inverse_last_word-of : (a b c d k : ℕ) → octets (bit_xor (word_of (slice_index INVERSE_S_BOX (octet a 0)) (slice_index INVERSE_S_BOX (octet b 1)) (slice_index INVERSE_S_BOX (octet c 2)) (slice_index INVERSE_S_BOX (octet d 3))) k) ≡ xor_lists (map inverse_sub_byte (diagonal a b c d)) (octets k)

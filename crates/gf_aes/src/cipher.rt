@@ -3,7 +3,7 @@
 ghost use Rattle.std.specs.Prelude.{◌≡◌, ◌%◌, ◌≤◌};
 ghost use Rattle.gf_aes.specs.Cipher.{IsMixed, add_round_key, block_of, cipher, inverse_cipher, mix_columns, shift_rows, sub_bytes};
 
-use crate::kernel::{inverse_last_word, inverse_round_word, last_word, mix_entries};
+use crate::kernel::{inverse_last_word, inverse_round_word, mix_entries, sub_entries};
 
 /// Round `r` of the cipher, with all its steps (FIPS 197, 5.1).
 #[inline(always)]
@@ -12,17 +12,19 @@ fn round(words: &[u32; 60], r: usize, block: &mut [u32; 4])
     ensures { block_of block.new
         ≡ add_round_key words.now (mix_columns (shift_rows (sub_bytes (block_of block.old)))) r }
 {
-    // One column is used up before the next, so that all stay in registers.
+    // The key's words first, and one column used up before the next, so that all stay in registers
+    // and little is left to add once the last column is there.
+    let k = 4 * r;
+    let key = [words[k], words[k + 1], words[k + 2], words[k + 3]];
     let a = mix_entries(block[0]);
     let b = mix_entries(block[1]);
     let c = mix_entries(block[2]);
     let d = mix_entries(block[3]);
-    let k = 4 * r;
     *block = [
-        a[0] ^ b[1] ^ c[2] ^ d[3] ^ words[k],
-        b[0] ^ c[1] ^ d[2] ^ a[3] ^ words[k + 1],
-        c[0] ^ d[1] ^ a[2] ^ b[3] ^ words[k + 2],
-        d[0] ^ a[1] ^ b[2] ^ c[3] ^ words[k + 3],
+        a[0] ^ b[1] ^ c[2] ^ d[3] ^ key[0],
+        b[0] ^ c[1] ^ d[2] ^ a[3] ^ key[1],
+        c[0] ^ d[1] ^ a[2] ^ b[3] ^ key[2],
+        d[0] ^ a[1] ^ b[2] ^ c[3] ^ key[3],
     ];
 }
 
@@ -33,13 +35,16 @@ fn last_round(words: &[u32; 60], r: usize, block: &mut [u32; 4])
     ensures { block_of block.new
         ≡ add_round_key words.now (shift_rows (sub_bytes (block_of block.old))) r }
 {
-    let [a, b, c, d] = *block;
+    let a = sub_entries(block[0]);
+    let b = sub_entries(block[1]);
+    let c = sub_entries(block[2]);
+    let d = sub_entries(block[3]);
     let k = 4 * r;
     *block = [
-        last_word(a, b, c, d, words[k]),
-        last_word(b, c, d, a, words[k + 1]),
-        last_word(c, d, a, b, words[k + 2]),
-        last_word(d, a, b, c, words[k + 3]),
+        a[0] ^ b[1] ^ c[2] ^ d[3] ^ words[k],
+        b[0] ^ c[1] ^ d[2] ^ a[3] ^ words[k + 1],
+        c[0] ^ d[1] ^ a[2] ^ b[3] ^ words[k + 2],
+        d[0] ^ a[1] ^ b[2] ^ c[3] ^ words[k + 3],
     ];
 }
 

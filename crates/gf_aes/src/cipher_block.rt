@@ -78,9 +78,9 @@ impl CipherBlock {
     pub fn add(&mut self, other: &CipherBlock)
         ensures { self.new ≡ xor_lists self.old other.now }
     {
-        let [a, b, c, d] = self.columns();
-        let [e, f, g, h] = other.columns();
-        *self = CipherBlock::of([a ^ e, b ^ f, c ^ g, d ^ h]);
+        let [left, right] = self.halves;
+        let [other_left, other_right] = other.halves;
+        self.halves = [left ^ other_left, right ^ other_right];
     }
 
     /// Writes the block over 16 octets.
@@ -89,7 +89,9 @@ impl CipherBlock {
         requires { length octets.old ≡ 16 }
         ensures { octets.new ≡ self.now }
     {
-        octets.copy_from_slice(&self.to_octets());
+        let [left, right] = self.halves;
+        octets[..8].copy_from_slice(&left.to_be_bytes());
+        octets[8..].copy_from_slice(&right.to_be_bytes());
     }
 
     /// The 16 octets.
