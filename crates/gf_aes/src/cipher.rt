@@ -35,16 +35,17 @@ fn last_round(words: &[u32; 60], r: usize, block: &mut [u32; 4])
     ensures { block_of block.new
         ≡ add_round_key words.now (shift_rows (sub_bytes (block_of block.old))) r }
 {
+    let k = 4 * r;
+    let last_key = [words[k], words[k + 1], words[k + 2], words[k + 3]];
     let a = sub_entries(block[0]);
     let b = sub_entries(block[1]);
     let c = sub_entries(block[2]);
     let d = sub_entries(block[3]);
-    let k = 4 * r;
     *block = [
-        a[0] ^ b[1] ^ c[2] ^ d[3] ^ words[k],
-        b[0] ^ c[1] ^ d[2] ^ a[3] ^ words[k + 1],
-        c[0] ^ d[1] ^ a[2] ^ b[3] ^ words[k + 2],
-        d[0] ^ a[1] ^ b[2] ^ c[3] ^ words[k + 3],
+        a[0] ^ b[1] ^ c[2] ^ d[3] ^ last_key[0],
+        b[0] ^ c[1] ^ d[2] ^ a[3] ^ last_key[1],
+        c[0] ^ d[1] ^ a[2] ^ b[3] ^ last_key[2],
+        d[0] ^ a[1] ^ b[2] ^ c[3] ^ last_key[3],
     ];
 }
 
