@@ -1,1 +1,3 @@
+pub mod EntryLaws
+pub mod FieldLaws
 pub mod Frames

@@ -2,6 +2,8 @@
 #![tactic(auto)]
 
 mod encoding;
+mod entries_read;
+mod fields;
 mod lane_journal;
 
 pub use lane_journal::{Journal, JournalErr};

@@ -1,0 +1,162 @@
+-- An entry that is read is the one that was written, and what was written is read again.
+use Rattle.std.proofs.Common.{◌≡◌, ℕ, zero, suc, ◌+◌, ◌^◌, ◌<◌, ◌≤◌, Bool, true, false, ◌&&◌, ltb, eqb, leb, List, [], ◌∷◌, ◌++◌, length, Option, Some, None, refl, sym, ap, subst, ◌∙◌, append_assoc, arith}
+use Rattle.std.specs.Prelude.{IsTrue, if◌then◌else◌, ◌==◌}
+use Rattle.std.proofs.lemmas.Bool.{leb-true, le-leb, eqb-true, and_from}
+use Rattle.std.proofs.lemmas.List.{nil_from_length, append-nil}
+use Rattle.ota_core.specs.Keyset.{Keyset}
+use Rattle.ota_core.specs.declared.jobs.JobId.{JobId}
+use Rattle.ota_core.specs.declared.keysets.KeysetFacts.{KeysetFacts}
+use Rattle.ota_core.specs.declared.entries.Entry.{Entry}
+use Rattle.ota_core.specs.declared.entries.Entry.TheVariants.{Open, Reserve, Done, Refused, Close}
+use Rattle.counter_journal.specs.EntryOctets.{five, front_octets, facts_octets, job_octets, entry_octets}
+use Rattle.counter_journal.specs.EntryRanges.{LONGEST_BODY, IsFront, IsEntry}
+use Rattle.counter_journal.specs.EntryReading.{◌>>=◌, only_if, Front, front_at, counter_at, job_at, tar_at, facts_in, is_body, open_in, reserve_in, done_in, status_of, refused_in, close_in, entry_behind, entry_in}
+use Rattle.counter_journal.proofs.FieldLaws.{IsBytes, bind_some, only_if_some, some_is, both_true, Takes, Takes-then, front_of, counter_takes, counter_again, front_takes, front_again, facts_takes, facts_again, AreFacts, job_takes, job_again, IsJob, tar_takes, tar_again}
+
+-- what follows the front of an entry
+abbrev kind_of : Entry → ℕ
+kind_of (Open by keyset facts) = 0x01
+kind_of (Reserve by keyset counter job tar body) = 0x02
+kind_of (Done by keyset counter answer) = 0x03
+kind_of (Refused by keyset counter status) = 0x04
+kind_of (Close by keyset) = 0x05
+
+three_parts : (a b c : List ℕ) → a ++ (b ++ c) ≡ a ++ b ++ c
+three_parts a b c = simp append_assoc
+
+five_parts : (a b c d e : List ℕ) → a ++ (b ++ (c ++ (d ++ e))) ≡ a ++ b ++ c ++ d ++ e
+five_parts a b c d e = simp append_assoc
+
+-- the entry has this front, and these octets behind it
+pub record Follows (front : Front) (octets : List ℕ) (kind : ℕ) (entry : Entry) : Type 0 where
+  pub spelled : front_octets kind front.by front.keyset ++ octets ≡ entry_octets entry
+  pub fits : IsEntry entry
+
+open_follows : (front : Front) (octets : List ℕ) (entry : Entry) → IsBytes octets → IsFront front.by front.keyset → open_in front octets ≡ Some entry → Follows front octets 0x01 entry
+unfolding open_in
+open_follows front octets entry fits is e =
+    let a = bind_some (facts_in octets) (λ facts. Some (Open front.by front.keyset facts)) entry e in
+    let t = facts_takes octets a.0 fits a.1 in
+    subst (Follows front octets 0x01) (some_is (Open front.by front.keyset a.0) entry a.2)
+    (record { spelled = ap (λ (l : List ℕ). front_octets 0x01 front.by front.keyset ++ l) t.0; fits = (is, t.1.base_fits, t.1.kic_long, t.1.kid_long) })
+
+reserve_follows : (front : Front) (octets : List ℕ) (entry : Entry) → IsBytes octets → IsFront front.by front.keyset → reserve_in front octets ≡ Some entry → Follows front octets 0x02 entry
+unfolding reserve_in
+reserve_follows front octets entry fits is e =
+    let a = bind_some (counter_at octets) (λ counter. job_at counter.1 >>= λ job. tar_at job.1 >>= λ tar. only_if (is_body tar.1) (Reserve front.by front.keyset counter.0 job.0 tar.0 tar.1)) entry e in
+    let b = bind_some (job_at a.0.1) (λ job. tar_at job.1 >>= λ tar. only_if (is_body tar.1) (Reserve front.by front.keyset a.0.0 job.0 tar.0 tar.1)) entry a.2 in
+    let c = bind_some (tar_at b.0.1) (λ tar. only_if (is_body tar.1) (Reserve front.by front.keyset a.0.0 b.0.0 tar.0 tar.1)) entry b.2 in
+    let g = only_if_some (is_body c.0.1) (Reserve front.by front.keyset a.0.0 b.0.0 c.0.0 c.0.1) entry c.2 in
+    let t0 = counter_takes octets a.0.0 a.0.1 fits a.1 in
+    let t1 = job_takes a.0.1 b.0.0 b.0.1 t0.0.rest_fits b.1 in
+    let t2 = tar_takes b.0.1 c.0.0 c.0.1 t1.0.rest_fits c.1 in
+    let sized = both_true (leb 1 (length c.0.1)) (leb (length c.0.1) LONGEST_BODY) g.0 in
+    let behind : octets ≡ five a.0.0 ++ (job_octets b.0.0 ++ (c.0.0 ++ c.0.1)) =
+    t0.0.parts ∙ ap (λ (l : List ℕ). five a.0.0 ++ l) (t1.0.parts ∙ ap (λ (l : List ℕ). job_octets b.0.0 ++ l) t2.0.parts) in
+    subst (Follows front octets 0x02) g.1
+    (record {
+      spelled =
+          ap (λ (l : List ℕ). front_octets 0x02 front.by front.keyset ++ l) behind
+          ∙ five_parts (front_octets 0x02 front.by front.keyset) (five a.0.0) (job_octets b.0.0) c.0.0 c.0.1;
+      fits = (is, t0.1, t1.1.campaign_fits, t1.1.job_fits, t2.1, leb-true 1 (length c.0.1) sized.0, leb-true (length c.0.1) LONGEST_BODY sized.1);
+    })
+
+done_follows : (front : Front) (octets : List ℕ) (entry : Entry) → IsBytes octets → IsFront front.by front.keyset → done_in front octets ≡ Some entry → Follows front octets 0x03 entry
+unfolding done_in
+done_follows front octets entry fits is e =
+    let a = bind_some (counter_at octets) (λ counter. Some (Done front.by front.keyset counter.0 counter.1)) entry e in
+    let t = counter_takes octets a.0.0 a.0.1 fits a.1 in
+    subst (Follows front octets 0x03) (some_is (Done front.by front.keyset a.0.0 a.0.1) entry a.2)
+    (record {
+      spelled = ap (λ (l : List ℕ). front_octets 0x03 front.by front.keyset ++ l) t.0.parts ∙ three_parts (front_octets 0x03 front.by front.keyset) (five a.0.0) a.0.1;
+      fits = (is, t.1);
+    })
+
+status_is : (octets : List ℕ) (status : ℕ) → status_of octets ≡ Some status → octets ≡ status ∷ []
+status_is [] status e = absurd cc
+status_is (octet ∷ []) status e = ap (λ (o : ℕ). o ∷ []) (some_is octet status e)
+status_is (octet ∷ other ∷ octets) status e = absurd cc
+
+refused_follows : (front : Front) (octets : List ℕ) (entry : Entry) → IsBytes octets → IsFront front.by front.keyset → refused_in front octets ≡ Some entry → Follows front octets 0x04 entry
+unfolding refused_in
+refused_follows front octets entry fits is e =
+    let a = bind_some (counter_at octets) (λ counter. status_of counter.1 >>= λ status. Some (Refused front.by front.keyset counter.0 status)) entry e in
+    let b = bind_some (status_of a.0.1) (λ status. Some (Refused front.by front.keyset a.0.0 status)) entry a.2 in
+    let t = counter_takes octets a.0.0 a.0.1 fits a.1 in
+    let behind : octets ≡ five a.0.0 ++ b.0 ∷ [] = t.0.parts ∙ ap (λ (l : List ℕ). five a.0.0 ++ l) (status_is a.0.1 b.0 b.1) in
+    subst (Follows front octets 0x04) (some_is (Refused front.by front.keyset a.0.0 b.0) entry b.2)
+    (record {
+      spelled = ap (λ (l : List ℕ). front_octets 0x04 front.by front.keyset ++ l) behind ∙ three_parts (front_octets 0x04 front.by front.keyset) (five a.0.0) (b.0 ∷ []);
+      fits = (is, t.1);
+    })
+
+close_follows : (front : Front) (octets : List ℕ) (entry : Entry) → IsFront front.by front.keyset → close_in front octets ≡ Some entry → Follows front octets 0x05 entry
+close_follows front octets entry is e =
+    let g = only_if_some (eqb (length octets) 0) (Close front.by front.keyset) entry e in
+    let nothing : octets ≡ [] = nil_from_length octets (eqb-true _ _ g.0) in
+    subst (Follows front octets 0x05) g.1
+    (record { spelled = ap (λ (l : List ℕ). front_octets 0x05 front.by front.keyset ++ l) nothing ∙ append-nil (front_octets 0x05 front.by front.keyset); fits = is })
+
+-- an entry of its kind
+kind_is : (front : Front) (octets : List ℕ) (kind : ℕ) (entry : Entry) → (front.kind == kind) ≡ true → Follows front octets kind entry → Follows front octets front.kind entry
+kind_is front octets kind entry is follows = subst (λ (k : ℕ). Follows front octets k entry) (sym (eqb-true front.kind kind is)) follows
+
+behind_cases : (front : Front) (octets : List ℕ) (entry : Entry) (one two three four five : Bool) → IsBytes octets → IsFront front.by front.keyset
+    → (front.kind == 1) ≡ one → (front.kind == 2) ≡ two → (front.kind == 3) ≡ three → (front.kind == 4) ≡ four → (front.kind == 5) ≡ five
+    → (if one then open_in front octets else (if two then reserve_in front octets else (if three then done_in front octets else (if four then refused_in front octets else (if five then close_in front octets else None))))) ≡ Some entry
+    → Follows front octets front.kind entry
+behind_cases front octets entry true two three four five fits is a b c d e read = kind_is front octets 1 entry a (open_follows front octets entry fits is read)
+behind_cases front octets entry false true three four five fits is a b c d e read = kind_is front octets 2 entry b (reserve_follows front octets entry fits is read)
+behind_cases front octets entry false false true four five fits is a b c d e read = kind_is front octets 3 entry c (done_follows front octets entry fits is read)
+behind_cases front octets entry false false false true five fits is a b c d e read = kind_is front octets 4 entry d (refused_follows front octets entry fits is read)
+behind_cases front octets entry false false false false true fits is a b c d e read = kind_is front octets 5 entry e (close_follows front octets entry is read)
+behind_cases front octets entry false false false false false fits is a b c d e read = absurd cc
+
+behind_follows : (front : Front) (octets : List ℕ) (entry : Entry) → IsBytes octets → IsFront front.by front.keyset → entry_behind front octets ≡ Some entry → Follows front octets front.kind entry
+unfolding entry_behind
+behind_follows front octets entry fits is read =
+    behind_cases front octets entry (front.kind == 1) (front.kind == 2) (front.kind == 3) (front.kind == 4) (front.kind == 5) fits is refl refl refl refl refl read
+
+-- what is read as an entry is spelled so
+pub entry_takes : (octets : List ℕ) (entry : Entry) → IsBytes octets → entry_in octets ≡ Some entry → (entry_octets entry ≡ octets) × IsEntry entry
+unfolding entry_in
+entry_takes octets entry fits e =
+    let a = bind_some (front_at octets) (λ front. entry_behind front.0 front.1) entry e in
+    let t = front_takes octets a.0.0 a.0.1 fits a.1 in
+    let f = behind_follows a.0.0 a.0.1 entry t.0.rest_fits t.1 a.2 in
+    (sym (t.0.parts ∙ f.spelled), f.fits)
+
+-- what is spelled as an entry is read as it
+body_true : (body : List ℕ) → 1 ≤ length body → length body ≤ LONGEST_BODY → is_body body ≡ true
+body_true body some_octets few = and_from (leb 1 (length body)) (leb (length body) LONGEST_BODY) (le-leb 1 (length body) some_octets) (le-leb (length body) LONGEST_BODY few)
+
+front_read : (kind by : ℕ) (keyset : Keyset) (rest : List ℕ) → IsFront by keyset → entry_in (front_octets kind by keyset ++ rest) ≡ entry_behind (front_of kind by keyset) rest
+unfolding entry_in
+front_read kind by keyset rest is = rw (front_again kind by keyset rest is) refl
+
+behind_again : (entry : Entry) → IsEntry entry → entry_in (entry_octets entry) ≡ Some entry
+unfolding entry_behind open_in reserve_in done_in refused_in
+behind_again (Open by keyset facts) is =
+    front_read 0x01 by keyset (facts_octets facts) is.0
+    ∙ rw (facts_again facts (record { base_fits = is.1; kic_long = is.2; kid_long = is.3 })) refl
+behind_again (Reserve by keyset counter job tar body) is =
+    ap entry_in (sym (five_parts (front_octets 0x02 by keyset) (five counter) (job_octets job) tar body))
+    ∙ front_read 0x02 by keyset (five counter ++ (job_octets job ++ (tar ++ body))) is.0
+    ∙ rw (counter_again counter (job_octets job ++ (tar ++ body)) is.1, job_again job (tar ++ body) (record { campaign_fits = is.2; job_fits = is.3 }), tar_again tar body is.4, body_true body is.5 is.6) refl
+behind_again (Done by keyset counter answer) is =
+    ap entry_in (sym (three_parts (front_octets 0x03 by keyset) (five counter) answer))
+    ∙ front_read 0x03 by keyset (five counter ++ answer) is.0
+    ∙ rw (counter_again counter answer is.1) refl
+behind_again (Refused by keyset counter status) is =
+    ap entry_in (sym (three_parts (front_octets 0x04 by keyset) (five counter) (status ∷ [])))
+    ∙ front_read 0x04 by keyset (five counter ++ status ∷ []) is.0
+    ∙ rw (counter_again counter (status ∷ []) is.1) refl
+behind_again (Close by keyset) is =
+    ap entry_in (sym (append-nil (front_octets 0x05 by keyset))) ∙ front_read 0x05 by keyset [] is ∙ refl
+
+pub entry_again : (entry : Entry) → IsEntry entry → entry_in (entry_octets entry) ≡ Some entry
+entry_again = behind_again
+
+-- no two entries are spelled alike
+pub one_entry : (a b : Entry) → IsEntry a → IsEntry b → entry_octets a ≡ entry_octets b → a ≡ b
+one_entry a b is_a is_b same = some_is a b (sym (entry_again a is_a) ∙ ap entry_in same ∙ entry_again b is_b)
