@@ -2,8 +2,8 @@
 use Rattle.std.specs.Prelude.{◌≡◌, ℕ, ◌+◌, ◌<◌, ◌≤◌, Result, Ok, Err, IsErrOf}
 use Rattle.disk_model.specs.Counts.{Counts, HasRisen}
 use Rattle.disk_model.specs.declared.faults.DiskFault.TheVariants as fault
-use Rattle.counter_journal.specs.declared.lane_journal.JournalErr.{JournalErr}
-use Rattle.counter_journal.specs.declared.lane_journal.JournalErr.TheVariants.{Memory, DiskFault, NotAJournal}
+use Rattle.counter_journal.specs.declared.narrow_journal.JournalErr.{JournalErr}
+use Rattle.counter_journal.specs.declared.narrow_journal.JournalErr.TheVariants.{Memory, DiskFault, NotAJournal}
 
 -- each fault of the disk comes only where its count rose; otherwise the counts stay, and so does the disk where memory is wanting
 abbrev pub AnswerCause : {T : Type 0} → Counts → Counts → Result T JournalErr → Type 0

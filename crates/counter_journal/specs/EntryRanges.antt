@@ -11,6 +11,10 @@ use Rattle.ota_core.specs.declared.entries.Entry.TheVariants.{Open, Reserve, Don
 abbrev pub LONGEST_BODY : ℕ
 LONGEST_BODY = 4096
 
+-- the greatest number of octets in an entry that is added
+abbrev pub LONGEST_ENTRY : ℕ
+LONGEST_ENTRY = 4126
+
 -- the sender's number, the card and its key version number (ETSI TS 102 225, 5.1.2: 1 to 15)
 pub record IsFront (by : ℕ) (keyset : Keyset) : Type 0 where
   pub by_fits : by < 2 ^ 32

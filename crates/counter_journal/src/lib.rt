@@ -3,7 +3,9 @@
 
 mod encoding;
 mod entries_read;
+mod entries_written;
 mod fields;
-mod lane_journal;
+mod histories_read;
+mod narrow_journal;
 
-pub use lane_journal::{Journal, JournalErr};
+pub use narrow_journal::{NarrowJournal, JournalErr};

@@ -8,7 +8,7 @@ use Rattle.gate_log.specs.Append.{opened_with, IsBeforeOrAfter, IsSettled}
 use Rattle.counter_journal.specs.Journal.{framed, journal_octets, IsJournalOf}
 use Rattle.counter_journal.specs.Causes.{AddTicks}
 use Rattle.counter_journal.specs.Laws.{journal_more, journal_either, journal_itself}
-use Rattle.counter_journal.specs.declared.lane_journal.JournalErr.{JournalErr}
+use Rattle.counter_journal.specs.declared.narrow_journal.JournalErr.{JournalErr}
 use Rattle.ota_commands.specs.Session.{IsJournalOfSome}
 use Rattle.ota_commands.specs.Added.{HasAddedSoFar}
 use Rattle.ota_commands.specs.Exit.{HasAdded}

@@ -7,8 +7,8 @@ use Rattle.disk_model.specs.Counts.{Counts, HasRisen}
 use Rattle.disk_model.specs.declared.faults.DiskFault.TheVariants as disk_fault
 use Rattle.counter_journal.specs.Journal.{journal_octets}
 use Rattle.counter_journal.specs.Causes.{AnswerCause}
-use Rattle.counter_journal.specs.declared.lane_journal.JournalErr.{JournalErr}
-use Rattle.counter_journal.specs.declared.lane_journal.JournalErr.TheVariants as journal_err
+use Rattle.counter_journal.specs.declared.narrow_journal.JournalErr.{JournalErr}
+use Rattle.counter_journal.specs.declared.narrow_journal.JournalErr.TheVariants as journal_err
 use Rattle.ota_commands.specs.Inputs.{input_of, unfailed}
 use Rattle.ota_commands.specs.Answers.{behind_journal, IsDecided}
 use Rattle.ota_commands.specs.Exit.{WriteCause, answer_of, end_of}

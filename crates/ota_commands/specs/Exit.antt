@@ -11,8 +11,8 @@ use Rattle.plan_reader.specs.declared.plans.Plan.{Plan}
 use Rattle.reports.specs.Report.{report_of}
 use Rattle.counter_journal.specs.Journal.{journal_octets, IsJournalOf}
 use Rattle.counter_journal.specs.Causes.{AddTicks, JournalCause}
-use Rattle.counter_journal.specs.declared.lane_journal.JournalErr.{JournalErr}
-use Rattle.counter_journal.specs.declared.lane_journal.JournalErr.TheVariants as journal_err
+use Rattle.counter_journal.specs.declared.narrow_journal.JournalErr.{JournalErr}
+use Rattle.counter_journal.specs.declared.narrow_journal.JournalErr.TheVariants as journal_err
 use Rattle.disk_model.specs.declared.faults.DiskFault.TheVariants as disk_fault
 use Rattle.ota_commands.specs.Inputs.{Input, Says, plan_reading, jobs_reading}
 use Rattle.ota_commands.specs.Session.{entries_for, IsJournalOfSome}

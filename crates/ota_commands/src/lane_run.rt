@@ -11,7 +11,7 @@ ghost use Rattle.ota_commands.specs.Exit.{HasAdded, end_of, fault_of_journal};
 use crate::faults::Fault;
 use crate::reserving::add_all;
 use crate::sessions::session_history;
-use counter_journal::{Journal, JournalErr};
+use counter_journal::{NarrowJournal, JournalErr};
 use disk_model::{DiskCalls, DiskFault};
 use ota_core::{History, Job};
 use plan_reader::Plan;
@@ -28,7 +28,7 @@ pub struct LaneRun {
 pub fn run_lane<D: DiskCalls>(
     alloc: Global,
     disk: &mut D,
-    journal: Journal,
+    journal: NarrowJournal,
     plan: &Plan,
     jobs: &[Job],
 ) -> LaneRun

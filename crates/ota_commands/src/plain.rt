@@ -16,7 +16,7 @@ use crate::inputs::{jobs_from, plan_from};
 use crate::lane_run::{LaneRun, end_of, fault_of_journal, run_lane};
 use crate::reporting::{answer_of, write_report};
 use crate::words::is_reserve;
-use counter_journal::Journal;
+use counter_journal::NarrowJournal;
 use disk_model::{Disk, DiskCalls};
 use ota_core::{Job, Memory};
 use ota_io::{Sink, Source};
@@ -114,7 +114,7 @@ fn reserve_and_report<K: Sink, D: DiskCalls>(
     jobs: &[Job],
     out: &mut K,
     disk: &mut D,
-    journal: Journal,
+    journal: NarrowJournal,
 ) -> LaneEnded
     requires empty { Tells D.told disk.old → D.told.seen disk.old ≡ journal_octets [] }
     requires settled { Tells D.told disk.old → IsSettled D.told disk.old 11 }
@@ -146,7 +146,7 @@ fn open_and_reserve<K: Sink, D: DiskCalls>(
     ensures cause { IfSome result.fault (LaneFaultComes (disk_input D.told (D.counts disk.old).faults (D.counts disk.new).faults disk.old) (K.faults out.old) (K.faults out.new)) }
     ensures complete { IsDecided (behind_journal (unfailed (disk_input D.told (D.counts disk.old).faults (D.counts disk.new).faults disk.old)) (K.faults out.old) (K.faults out.new)) result.fault }
 {
-    match Journal::open(disk) {
+    match NarrowJournal::open(disk) {
         Err(error) => LaneEnded {
             fault: Some(fault_of_journal(error)),
             end: None,

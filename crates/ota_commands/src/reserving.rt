@@ -6,7 +6,7 @@ ghost use Rattle.counter_journal.specs.Causes.{JournalCause};
 ghost use Rattle.ota_commands.specs.Session.{IsShort};
 ghost use Rattle.ota_commands.specs.Exit.{HasAdded};
 
-use counter_journal::{Journal, JournalErr};
+use counter_journal::{NarrowJournal, JournalErr};
 use disk_model::DiskCalls;
 use ota_core::Entry;
 use std::alloc::Global;
@@ -16,7 +16,7 @@ use std::alloc::Global;
 pub fn add_all<D: DiskCalls>(
     alloc: Global,
     disk: &mut D,
-    journal: Journal,
+    journal: NarrowJournal,
     entries: &[Entry],
 ) -> (usize, Result<(), JournalErr>)
     requires empty { Tells D.told disk.old → D.told.seen disk.old ≡ journal_octets [] }

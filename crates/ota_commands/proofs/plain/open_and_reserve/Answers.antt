@@ -2,7 +2,7 @@ use Rattle.std.proofs.Common.{◌⊎◌, inl, inr, ℕ, List, length, IsTrue, Op
 use Rattle.disk_model.specs.Counts.{Counts}
 use Rattle.disk_model.specs.Disk.{image_now}
 use Rattle.disk_model.specs.Runs.{joined, weaker}
-use Rattle.counter_journal.specs.declared.lane_journal.JournalErr.{JournalErr}
+use Rattle.counter_journal.specs.declared.narrow_journal.JournalErr.{JournalErr}
 use Rattle.ota_commands.specs.Session.{entries_for, IsJournalOfSome}
 use Rattle.ota_commands.specs.Exit.{CallsMade, answer_of}
 use Rattle.ota_commands.specs.declared.faults.Fault.{Fault}

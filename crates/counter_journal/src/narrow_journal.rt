@@ -30,7 +30,7 @@ pub enum JournalErr {
 
 impl From<DiskFault> for JournalErr {
     ghost use Rattle.std.specs.Prelude.{◌≡◌};
-    ghost use Rattle.counter_journal.specs.declared.lane_journal.JournalErr.TheVariants as err;
+    ghost use Rattle.counter_journal.specs.declared.narrow_journal.JournalErr.TheVariants as err;
 
     ghost from_gives = { λ fault e. e ≡ err.DiskFault fault };
 
@@ -41,7 +41,7 @@ impl From<DiskFault> for JournalErr {
 
 impl From<Memory> for JournalErr {
     ghost use Rattle.std.specs.Prelude.{◌≡◌};
-    ghost use Rattle.counter_journal.specs.declared.lane_journal.JournalErr.TheVariants as err;
+    ghost use Rattle.counter_journal.specs.declared.narrow_journal.JournalErr.TheVariants as err;
 
     ghost from_gives = { λ _ e. e ≡ err.Memory };
 
@@ -52,11 +52,11 @@ impl From<Memory> for JournalErr {
 
 /// The journal of a lane on a disk. Contracts see its length in octets.
 #[derive(Debug, Drop)]
-pub struct Journal {
+pub struct NarrowJournal {
     len: u64,
 }
 
-impl Model for Journal {
+impl Model for NarrowJournal {
     ghost Value = { ℕ };
 
     ghost view = { λ j. j.len };
@@ -64,9 +64,9 @@ impl Model for Journal {
     ghost invariant = { λ j. 11 ≤ j.len };
 }
 
-impl Journal {
+impl NarrowJournal {
     /// Opens a journal that has no entries yet. It is refused exactly where the disk's content is another.
-    pub fn open<D: DiskCalls>(disk: &mut D) -> Result<Journal, JournalErr>
+    pub fn open<D: DiskCalls>(disk: &mut D) -> Result<NarrowJournal, JournalErr>
         ensures opened { Tells D.told disk.old → OnOk result (D.told.seen disk.old ≡ journal_octets []) }
         ensures refused { Tells D.told disk.old → IsRefused result → D.told.seen disk.old ≢ journal_octets [] }
         ensures length { IfOk result (λ journal. journal ≡ 11) }
@@ -84,7 +84,7 @@ impl Journal {
         if !is_empty_journal(&room[..count]) {
             return Err(JournalErr::NotAJournal);
         }
-        Ok(Journal { len: 11 })
+        Ok(NarrowJournal { len: 11 })
     }
 
     /// Adds an entry in a batch of its own, by four device calls, all or none.
