@@ -1,4 +1,7 @@
+pub mod AddLaws
+pub mod BatchLaws
 pub mod EntryLaws
 pub mod FieldLaws
 pub mod Frames
 pub mod HistoryLaws
+pub mod OpeningLaws

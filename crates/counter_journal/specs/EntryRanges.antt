@@ -38,10 +38,14 @@ IsSized (Reserve by keyset counter job tar body) = (1 ≤ length body) × (lengt
 IsSized (Done by keyset counter answer) = length answer ≤ LONGEST_BODY
 IsSized _ = Unit {0}
 
--- the entry can stand in a journal of the lane: the lane of a card is its number modulo the number of lanes
+-- the entry is of a card of the lane: the lane of a card is its number modulo the number of lanes
+abbrev pub IsOfLane : ℕ → ℕ → Entry → Type 0
+IsOfLane lane lanes entry = (keyset_of entry).card.0 % lanes ≡ lane
+
+-- the entry can stand in a journal of the lane
 pub record IsEntryOf (lane lanes : ℕ) (entry : Entry) : Type 0 where
   pub fits : IsEntry entry
-  pub of_lane : (keyset_of entry).card.0 % lanes ≡ lane
+  pub of_lane : IsOfLane lane lanes entry
 
 -- a history of the lane
 pub record IsHistory (lane lanes : ℕ) (entries : List Entry) : Type 0 where

@@ -3,6 +3,7 @@ pub mod EntryRanges
 pub mod EntryReading
 pub mod Journal
 pub mod JournalReading
+pub mod JournalKept
 pub mod HistoryReading
 pub mod Causes
 pub mod Laws

@@ -1,11 +1,14 @@
 //! The journal of a lane: its history, kept so that a stop at any moment leaves each entry whole or not at all.
 #![tactic(auto)]
 
+mod batches;
 mod encoding;
 mod entries_read;
 mod entries_written;
 mod fields;
 mod histories_read;
+mod journals;
 mod narrow_journal;
 
+pub use journals::Journal;
 pub use narrow_journal::{NarrowJournal, JournalErr};

@@ -11,7 +11,7 @@ use Rattle.gate_log.specs.declared.log_errors.LogErr.TheVariants as log_err
 use Rattle.gate_log.specs.Reading.{parts_of, Reading, reading_with, reading_of_walk, walk_from, heading_of}
 use Rattle.gate_log.specs.Reading.Reading.{Opened}
 use Rattle.gate_log.specs.Readings.{cut_again, log_long}
-use Rattle.gate_log.specs.Answers.{Refuses, OpensAt, heading_answer, IsWantOrFault, IsNotFull, IsFound, IsRead}
+use Rattle.gate_log.specs.Answers.{Refuses, OpensAt, heading_answer, IsWantOrFault, IsNotFull, IsNotDamaged, IsFound, IsRead}
 use Rattle.gate_log.specs.Opening.{OpensAlike, IsOpened, IsOpenLog}
 
 -- what wants memory or meets a fault says nothing of the octets
@@ -32,6 +32,15 @@ want_not_full log_err.NotALog is = tt
 want_not_full (log_err.OtherHead rest) is = tt
 want_not_full (log_err.Damaged number) is = tt
 want_not_full (log_err.Full long need) is = absurd is
+
+pub want_not_damaged : (error : LogErr) → IsWantOrFault error → IsNotDamaged error
+want_not_damaged log_err.Memory is = tt
+want_not_damaged (log_err.DiskFault fault) is = tt
+want_not_damaged log_err.Unformatted is = tt
+want_not_damaged log_err.NotALog is = tt
+want_not_damaged (log_err.OtherHead rest) is = tt
+want_not_damaged (log_err.Damaged number) is = absurd is
+want_not_damaged (log_err.Full long need) is = tt
 
 -- what lies behind the gate leaves room for the gate and what stands before it
 pub found_within : (head octets : List ℕ) (parts : List (List ℕ)) (size : Option ℕ) → IsRead parts size (parts_of head octets) → IfSome size (λ n. n + 11 ≤ length octets)

@@ -54,6 +54,11 @@ abbrev pub IsNotFull : LogErr → Type 0
 IsNotFull (log_err.Full length need) = ⊥
 IsNotFull error = Unit {0}
 
+-- a log wasn't refused for a batch that is damaged
+abbrev pub IsNotDamaged : LogErr → Type 0
+IsNotDamaged (log_err.Damaged number) = ⊥
+IsNotDamaged error = Unit {0}
+
 -- the answer to what stands in front of the first gate
 abbrev pub heading_answer : Heading → Result (Unit {0}) LogErr
 heading_answer heading.Unformatted = Err log_err.Unformatted

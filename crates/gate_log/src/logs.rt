@@ -4,7 +4,7 @@ ghost use Rattle.std.specs.Prelude.{◌≡◌, ◌⊎◌, ℕ, ◌+◌, ◌^◌,
 ghost use Rattle.disk_model.specs.Disk.{Tells, image_now, DiskRun, Only};
 ghost use Rattle.gate_log.specs.Reading.{parts_of, OpensTo};
 ghost use Rattle.gate_log.specs.Reading.Reading.{Opened, Damaged};
-ghost use Rattle.gate_log.specs.Answers.{LogCause, UnlessFault, Answers, OpensAt, IsNotFull, IsOwn};
+ghost use Rattle.gate_log.specs.Answers.{LogCause, UnlessFault, Answers, OpensAt, IsNotFull, IsNotDamaged, IsOwn};
 ghost use Rattle.gate_log.specs.Opening.{OpensAlike, IsOpened, IsOpenLog, AppendAnswer, AppendTicks, need_of};
 ghost use Rattle.gate_log.specs.Append.{opened_with};
 ghost use Rattle.gate_log.specs.Batches.{framed};
@@ -146,7 +146,7 @@ pub fn records<D: DiskCalls>(
     }
 }
 
-/// The parts of a log up to the gate that ends it, or up to the first batch that is damaged.
+/// The parts of a log up to the gate that ends it, or up to the first batch that is damaged. It never answers `Damaged`.
 pub fn sound_records<D: DiskCalls>(
     alloc: Global,
     disk: &mut D,
@@ -158,6 +158,7 @@ pub fn sound_records<D: DiskCalls>(
     ensures tells { D.told.tells disk.new ≡ D.told.tells disk.old }
     ensures cause { LogCause (D.counts disk.old) (D.counts disk.new) result }
     ensures not_full { IfErr result IsNotFull }
+    ensures not_damaged { IfErr result IsNotDamaged }
 {
     let octets = read_all(alloc, disk)?;
     Ok(find(alloc, &octets, &head)?.parts)

@@ -2,7 +2,7 @@
 
 ghost use Rattle.std.specs.Prelude.{◌≡◌, ◌+◌, ◌≤◌, ◌++◌, length, IfOk, IfErr, IfSome, OnOk};
 ghost use Rattle.gate_log.specs.Reading.{heading_of, walk_from, parts_of};
-ghost use Rattle.gate_log.specs.Answers.{IsFound, IsRead, Answers, IsOwn, heading_answer};
+ghost use Rattle.gate_log.specs.Answers.{IsFound, IsRead, Answers, IsOwn, IsNotDamaged, heading_answer};
 ghost use Rattle.gate_log.specs.Steps.{IsStep};
 
 use crate::headings::{Heading, heading_of};
@@ -95,6 +95,7 @@ pub(crate) fn find(alloc: Global, octets: &[u8], head: &[u8; 9]) -> Result<Found
     ensures answer { Answers (λ found. IsRead found.parts.items found.behind (parts_of head.now octets.now)) (parts_of head.now octets.now) result }
     ensures within { IfOk result (λ found. IfSome found.behind (λ size. size + 11 ≤ length octets.now)) }
     ensures own { IfErr result IsOwn }
+    ensures parts { IfErr result IsNotDamaged }
 {
     check_heading(octets, head)?;
     Ok(walk(alloc, &octets[10..])?)

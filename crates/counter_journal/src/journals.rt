@@ -1,0 +1,244 @@
+//! The journal of a lane.
+
+ghost use Rattle.std.specs.Prelude.{◌≡◌, ◌⊎◌, ◌+◌, ◌*◌, ◌^◌, ◌<◌, ◌≤◌, [], ◌++◌, ℕ, List, All, None, Err, length, reverse, take, IfOk, IfErr, OnOk, OnErr};
+ghost use Rattle.disk_model.specs.Disk.{Tells, image_now, DiskRun, Only};
+ghost use Rattle.gate_log.specs.declared.log_errors.LogErr.TheVariants as log_err;
+ghost use Rattle.gate_log.specs.Reading.{parts_of};
+ghost use Rattle.gate_log.specs.Answers.{LogCause, UnlessFault, IsNotFull};
+ghost use Rattle.gate_log.specs.Opening.{OpensAlike, AppendTicks, need_of};
+ghost use Rattle.ota_core.specs.History.{broken_batch};
+ghost use Rattle.counter_journal.specs.EntryRanges.{IsSized, IsOfLane, IsEntryOf, IsHistory};
+ghost use Rattle.counter_journal.specs.Journal.{journal_head};
+ghost use Rattle.counter_journal.specs.HistoryReading.{PartsAnswer, is_damage};
+ghost use Rattle.counter_journal.specs.JournalReading.{parts_for, Holds, OpeningAnswer, IsReady, IsSameJournal, AddAnswer, IsBeforeCalls};
+
+use crate::batches::put_entries;
+use crate::histories_read::history_of;
+use disk_model::DiskCalls;
+use gate_log::{Batch, Log, LogErr, open, sound_records};
+use ota_core::{Entry, History, Memory};
+use std::alloc::Global;
+use std::marker::Model;
+
+/// The greatest number of octets in an entry that is added.
+const LONGEST_ENTRY: u32 = 4126;
+
+/// The journal of a lane on a disk: its history, and where its log ends.
+#[derive(Debug, Drop)]
+pub struct Journal {
+    alloc: Global,
+    lane: u16,
+    lanes: u16,
+    log: Log,
+    history: History,
+    /// Room for the octets of a batch. It is empty between the calls.
+    batch: Batch,
+    /// For how many entries the batch has room.
+    batch_room: u32,
+    /// For how many entries there is room in the batch and in the history.
+    room: u32,
+}
+
+impl Model for Journal {
+    ghost use Rattle.counter_journal.specs.HistoryReading.{PartsAnswer, is_damage};
+ghost use Rattle.counter_journal.specs.JournalReading.{JournalValue};
+    ghost use Rattle.counter_journal.specs.JournalKept.{IsJournalKept};
+
+    ghost Value = { JournalValue };
+
+    ghost view = { λ j. record { lane = j.lane; lanes = j.lanes; entries = j.history.entries; length = j.log; room = j.room } };
+
+    ghost invariant = { λ j. IsJournalKept j.lane j.lanes j.history j.batch j.batch_room j.room };
+}
+
+impl Journal {
+    /// Opens the journal of this lane, of so many lanes, and reads its history.
+    ///
+    /// The log is opened as such, so that octets behind its gate are cut off. `Damaged` has the number, from 1, of the
+    /// first part that is wrong in any way: it is no entry, it is of a card of another lane, it breaks a rule of the
+    /// history, or its batch is damaged. A stop at any moment leaves what opens alike. It never answers `Full`.
+    pub fn open<D: DiskCalls>(
+        alloc: Global,
+        disk: &mut D,
+        lane: u16,
+        lanes: u16,
+    ) -> Result<Journal, LogErr>
+        requires { lane < lanes }
+        ensures answer { Tells D.told disk.old → OpeningAnswer lane lanes (D.told.seen disk.old) result }
+        ensures ready { Tells D.told disk.old → IfOk result (IsReady D.told disk.new) }
+        ensures content { Tells D.told disk.old → IfOk result (λ journal. D.told.seen disk.new ≡ take journal.length (D.told.seen disk.old)) }
+        ensures moments { Tells D.told disk.old → DiskRun D.told disk.old disk.new (λ image. image_now D.told disk.old image ⊎ OpensAlike (journal_head lane lanes) (D.told.seen disk.old) image) }
+        ensures lane { IfOk result (λ journal. (journal.lane ≡ lane) × (journal.lanes ≡ lanes)) }
+        ensures tells { D.told.tells disk.new ≡ D.told.tells disk.old }
+        ensures cause { LogCause (D.counts disk.old) (D.counts disk.new) result }
+        ensures not_full { IfErr result IsNotFull }
+    {
+        match open(alloc, disk, head_of(lane, lanes)) {
+            Ok(log) => {
+                let history = read_history(alloc, disk, lane, lanes)?;
+                journal_of(alloc, lane, lanes, log, history)
+            }
+            Err(error) => {
+                if !is_damage(error) {
+                    return Err(error);
+                }
+                // An entry that is wrong ahead of a damaged batch comes first.
+                read_history(alloc, disk, lane, lanes)?;
+                Err(error)
+            }
+        }
+    }
+
+    /// The history that the journal holds. Each reserved script in it has 1 to 4,096 octets.
+    pub fn history(&self) -> &History
+        ensures entries { result.now.entries ≡ self.now.entries }
+        ensures of_lane { All (IsEntryOf self.now.lane self.now.lanes) self.now.entries }
+    {
+        &self.history
+    }
+
+    /// The length of the journal's log in octets.
+    pub fn length(&self) -> u64
+        ensures { result ≡ self.now.length }
+    {
+        self.log.length()
+    }
+
+    /// Makes room for one addition of so many entries, of 1 to 16, which then wants no memory.
+    pub fn make_room(&mut self, entries: u32) -> Result<(), Memory>
+        requires some { 1 ≤ entries }
+        requires few { entries ≤ 16 }
+        ensures same { IsSameJournal self.old self.new }
+        ensures ok { OnOk result (entries ≤ self.new.room) }
+        ensures err { OnErr result (self.old.room < entries) }
+        ensures room { self.old.room ≤ self.new.room }
+    {
+        if self.room >= entries {
+            return Ok(());
+        }
+        self.history.reserve(entries as usize)?;
+        if self.batch_room < entries {
+            self.batch = Batch::room(self.alloc, entries, LONGEST_ENTRY * entries)?;
+            self.batch_room = entries;
+        }
+        self.room = entries;
+        Ok(())
+    }
+
+    /// Adds 1 to 16 entries in one batch, all or none.
+    ///
+    /// They are legal one after the other, of cards of this lane, with scripts of 1 to 4,096 octets and answers of at
+    /// most 4,096. The disk is as the opening, or the last addition that answered Ok, left it. A stop at any moment
+    /// leaves the journal of the history so far, or of it and all entries; after Ok, of these. `Memory` and `Full` come
+    /// before the first device call, with nothing changed. After a fault of the disk the history is the one before, and
+    /// the journal is opened again.
+    pub fn add<D: DiskCalls>(&mut self, disk: &mut D, entries: Vec<Entry>) -> Result<(), LogErr>
+        requires some { 1 ≤ length entries.items }
+        requires few { length entries.items ≤ 16 }
+        requires sized { All IsSized entries.items }
+        requires of_lane { All (IsOfLane self.old.lane self.old.lanes) entries.items }
+        requires legal { broken_batch (reverse self.old.entries) entries.items ≡ None }
+        requires ready { Tells D.told disk.old → IsReady D.told disk.old self.old }
+        ensures moments { Tells D.told disk.old → DiskRun D.told disk.old disk.new (λ image. Holds self.old.lane self.old.lanes self.old.entries image ⊎ Holds self.old.lane self.old.lanes (self.old.entries ++ entries.items) image) }
+        ensures ready { Tells D.told disk.old → OnOk result (IsReady D.told disk.new self.new) }
+        ensures added { OnOk result (self.new.entries ≡ self.old.entries ++ entries.items) }
+        ensures length { OnOk result (self.new.length ≡ self.old.length + need_of (parts_for entries.items)) }
+        ensures lane { (self.new.lane ≡ self.old.lane) × (self.new.lanes ≡ self.old.lanes) }
+        ensures err { OnErr result (IsSameJournal self.old self.new) }
+        ensures room { self.old.room ≤ self.new.room + length entries.items }
+        ensures answer { AddAnswer self.old (length entries.items) (need_of (parts_for entries.items)) result }
+        ensures unchanged { IfErr result (λ error. IsBeforeCalls error → disk.new ≡ disk.old) }
+        ensures clock { Tells D.told disk.old → AppendTicks (D.told.clock disk.old) (D.told.clock disk.new) result }
+        ensures tells { D.told.tells disk.new ≡ D.told.tells disk.old }
+        ensures cause { LogCause (D.counts disk.old) (D.counts disk.new) result }
+    {
+        let count = entries.len() as u32;
+        self.make_room(count)?;
+        put_entries(&mut self.batch, &entries);
+        let appended = self.log.append(disk, &self.batch);
+        self.batch.clear();
+        appended?;
+        add_all(&mut self.history, entries);
+        self.room -= count;
+        Ok(())
+    }
+}
+
+fn is_damage(error: LogErr) -> bool
+    ensures { result ≡ is_damage error }
+{
+    match error {
+        LogErr::Damaged(_) => true,
+        _ => false,
+    }
+}
+
+/// The head of the journal of a lane: a name, a version, the lane and the number of lanes.
+fn head_of(lane: u16, lanes: u16) -> [u8; 9]
+    ensures { result ≡ journal_head lane lanes }
+{
+    let [lane_high, lane_low] = lane.to_be_bytes();
+    let [lanes_high, lanes_low] = lanes.to_be_bytes();
+    [
+        b'O', b'T', b'A', b'J', 0x01, lane_high, lane_low, lanes_high, lanes_low,
+    ]
+}
+
+/// The history whose entries are the parts of the log, up to its gate or up to a batch that is damaged.
+fn read_history<D: DiskCalls>(
+    alloc: Global,
+    disk: &mut D,
+    lane: u16,
+    lanes: u16,
+) -> Result<History, LogErr>
+    requires { 0 < lanes }
+    ensures answer { Tells D.told disk.old → PartsAnswer lane lanes (parts_of (journal_head lane lanes) (D.told.seen disk.old)) result }
+    ensures of_lane { IfOk result (λ history. All (IsEntryOf lane lanes) history.entries) }
+    ensures content { Tells D.told disk.old → UnlessFault result (D.told.seen disk.new ≡ D.told.seen disk.old) }
+    ensures moments { Tells D.told disk.old → DiskRun D.told disk.old disk.new (image_now D.told disk.old) }
+    ensures tells { D.told.tells disk.new ≡ D.told.tells disk.old }
+    ensures cause { LogCause (D.counts disk.old) (D.counts disk.new) result }
+    ensures not_full { IfErr result IsNotFull }
+{
+    let parts = sound_records(alloc, disk, head_of(lane, lanes))?;
+    history_of(alloc, &parts, lane, lanes)
+}
+
+/// A journal that has room for one entry.
+fn journal_of(
+    alloc: Global,
+    lane: u16,
+    lanes: u16,
+    log: Log,
+    history: History,
+) -> Result<Journal, LogErr>
+    requires some { 0 < lanes }
+    requires of_lane { All (IsEntryOf lane lanes) history.entries }
+    ensures made { IfOk result (λ journal. journal ≡ record { lane = lane; lanes = lanes; entries = history.entries; length = log; room = 0 }) }
+    ensures err { IfErr result (λ error. error ≡ log_err.Memory) }
+{
+    let batch = Batch::room(alloc, 1, LONGEST_ENTRY)?;
+    Ok(Journal {
+        alloc,
+        lane,
+        lanes,
+        log,
+        history,
+        batch,
+        batch_room: 1,
+        room: 0,
+    })
+}
+
+/// Adds entries for which there is room, and which are legal one after the other.
+fn add_all(history: &mut History, entries: Vec<Entry>)
+    requires legal { broken_batch (reverse history.old.entries) entries.items ≡ None }
+    requires room { length entries.items ≤ history.old.room }
+    ensures entries { history.new.entries ≡ history.old.entries ++ entries.items }
+    ensures room { history.old.room ≤ history.new.room + length entries.items }
+{
+    let mut rest = entries.into_iter();
+    while let Some(entry) = rest.next() {
+        history.add(entry).unwrap();
+    }
+}
