@@ -4,6 +4,7 @@ pub mod EntryReading
 pub mod Journal
 pub mod JournalReading
 pub mod JournalKept
+pub mod JournalMaking
 pub mod HistoryReading
 pub mod Causes
 pub mod Laws

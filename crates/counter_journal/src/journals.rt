@@ -13,6 +13,7 @@ ghost use Rattle.counter_journal.specs.HistoryReading.{PartsAnswer, is_damage};
 ghost use Rattle.counter_journal.specs.JournalReading.{parts_for, Holds, OpeningAnswer, IsReady, IsSameJournal, AddAnswer, IsBeforeCalls};
 
 use crate::batches::put_entries;
+use crate::heads::head_of;
 use crate::histories_read::history_of;
 use disk_model::DiskCalls;
 use gate_log::{Batch, Log, LogErr, open, sound_records};
@@ -171,17 +172,6 @@ fn is_damage(error: LogErr) -> bool
         LogErr::Damaged(_) => true,
         _ => false,
     }
-}
-
-/// The head of the journal of a lane: a name, a version, the lane and the number of lanes.
-fn head_of(lane: u16, lanes: u16) -> [u8; 9]
-    ensures { result ≡ journal_head lane lanes }
-{
-    let [lane_high, lane_low] = lane.to_be_bytes();
-    let [lanes_high, lanes_low] = lanes.to_be_bytes();
-    [
-        b'O', b'T', b'A', b'J', 0x01, lane_high, lane_low, lanes_high, lanes_low,
-    ]
 }
 
 /// The history whose entries are the parts of the log, up to its gate or up to a batch that is damaged.

@@ -6,9 +6,12 @@ mod encoding;
 mod entries_read;
 mod entries_written;
 mod fields;
+mod formats;
+mod heads;
 mod histories_read;
 mod journals;
 mod narrow_journal;
 
+pub use formats::format;
 pub use journals::Journal;
 pub use narrow_journal::{NarrowJournal, JournalErr};
