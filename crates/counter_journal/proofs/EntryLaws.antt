@@ -1,4 +1,4 @@
--- An entry that is read is the one that was written, and what was written is read again.
+-- An entry that is read is the one that was written.
 use Rattle.std.proofs.Common.{◌≡◌, ℕ, zero, suc, ◌+◌, ◌^◌, ◌<◌, ◌≤◌, Bool, true, false, ◌&&◌, ltb, eqb, leb, List, [], ◌∷◌, ◌++◌, length, Option, Some, None, refl, sym, ap, subst, ◌∙◌, append_assoc, arith}
 use Rattle.std.specs.Prelude.{IsTrue, if◌then◌else◌, ◌==◌}
 use Rattle.std.proofs.lemmas.Bool.{leb-true, le-leb, eqb-true, and_from}
@@ -11,21 +11,8 @@ use Rattle.ota_core.specs.declared.entries.Entry.TheVariants.{Open, Reserve, Don
 use Rattle.counter_journal.specs.EntryOctets.{five, front_octets, facts_octets, job_octets, entry_octets}
 use Rattle.counter_journal.specs.EntryRanges.{LONGEST_BODY, IsFront, IsEntry}
 use Rattle.counter_journal.specs.EntryReading.{◌>>=◌, only_if, Front, front_at, counter_at, job_at, tar_at, facts_in, is_body, open_in, reserve_in, done_in, status_of, refused_in, close_in, entry_behind, entry_in}
-use Rattle.counter_journal.proofs.FieldLaws.{IsBytes, bind_some, only_if_some, some_is, both_true, Takes, Takes-then, front_of, counter_takes, counter_again, front_takes, front_again, facts_takes, facts_again, AreFacts, job_takes, job_again, IsJob, tar_takes, tar_again}
-
--- what follows the front of an entry
-abbrev kind_of : Entry → ℕ
-kind_of (Open by keyset facts) = 0x01
-kind_of (Reserve by keyset counter job tar body) = 0x02
-kind_of (Done by keyset counter answer) = 0x03
-kind_of (Refused by keyset counter status) = 0x04
-kind_of (Close by keyset) = 0x05
-
-three_parts : (a b c : List ℕ) → a ++ (b ++ c) ≡ a ++ b ++ c
-three_parts a b c = simp append_assoc
-
-five_parts : (a b c d e : List ℕ) → a ++ (b ++ (c ++ (d ++ e))) ≡ a ++ b ++ c ++ d ++ e
-five_parts a b c d e = simp append_assoc
+use Rattle.counter_journal.specs.EntriesAgain.{some_is, three_parts, five_parts, AreFacts, IsJob}
+use Rattle.counter_journal.proofs.FieldLaws.{IsBytes, bind_some, only_if_some, both_true, Takes, Takes-then, counter_takes, front_takes, facts_takes, job_takes, tar_takes}
 
 -- the entry has this front, and these octets behind it
 pub record Follows (front : Front) (octets : List ℕ) (kind : ℕ) (entry : Entry) : Type 0 where
@@ -125,38 +112,3 @@ entry_takes octets entry fits e =
     let t = front_takes octets a.0.0 a.0.1 fits a.1 in
     let f = behind_follows a.0.0 a.0.1 entry t.0.rest_fits t.1 a.2 in
     (sym (t.0.parts ∙ f.spelled), f.fits)
-
--- what is spelled as an entry is read as it
-body_true : (body : List ℕ) → 1 ≤ length body → length body ≤ LONGEST_BODY → is_body body ≡ true
-body_true body some_octets few = and_from (leb 1 (length body)) (leb (length body) LONGEST_BODY) (le-leb 1 (length body) some_octets) (le-leb (length body) LONGEST_BODY few)
-
-front_read : (kind by : ℕ) (keyset : Keyset) (rest : List ℕ) → IsFront by keyset → entry_in (front_octets kind by keyset ++ rest) ≡ entry_behind (front_of kind by keyset) rest
-unfolding entry_in
-front_read kind by keyset rest is = rw (front_again kind by keyset rest is) refl
-
-behind_again : (entry : Entry) → IsEntry entry → entry_in (entry_octets entry) ≡ Some entry
-unfolding entry_behind open_in reserve_in done_in refused_in
-behind_again (Open by keyset facts) is =
-    front_read 0x01 by keyset (facts_octets facts) is.0
-    ∙ rw (facts_again facts (record { base_fits = is.1; kic_long = is.2; kid_long = is.3 })) refl
-behind_again (Reserve by keyset counter job tar body) is =
-    ap entry_in (sym (five_parts (front_octets 0x02 by keyset) (five counter) (job_octets job) tar body))
-    ∙ front_read 0x02 by keyset (five counter ++ (job_octets job ++ (tar ++ body))) is.0
-    ∙ rw (counter_again counter (job_octets job ++ (tar ++ body)) is.1, job_again job (tar ++ body) (record { campaign_fits = is.2; job_fits = is.3 }), tar_again tar body is.4, body_true body is.5 is.6) refl
-behind_again (Done by keyset counter answer) is =
-    ap entry_in (sym (three_parts (front_octets 0x03 by keyset) (five counter) answer))
-    ∙ front_read 0x03 by keyset (five counter ++ answer) is.0
-    ∙ rw (counter_again counter answer is.1) refl
-behind_again (Refused by keyset counter status) is =
-    ap entry_in (sym (three_parts (front_octets 0x04 by keyset) (five counter) (status ∷ [])))
-    ∙ front_read 0x04 by keyset (five counter ++ status ∷ []) is.0
-    ∙ rw (counter_again counter (status ∷ []) is.1) refl
-behind_again (Close by keyset) is =
-    ap entry_in (sym (append-nil (front_octets 0x05 by keyset))) ∙ front_read 0x05 by keyset [] is ∙ refl
-
-pub entry_again : (entry : Entry) → IsEntry entry → entry_in (entry_octets entry) ≡ Some entry
-entry_again = behind_again
-
--- no two entries are spelled alike
-pub one_entry : (a b : Entry) → IsEntry a → IsEntry b → entry_octets a ≡ entry_octets b → a ≡ b
-one_entry a b is_a is_b same = some_is a b (sym (entry_again a is_a) ∙ ap entry_in same ∙ entry_again b is_b)

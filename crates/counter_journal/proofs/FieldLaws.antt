@@ -1,4 +1,4 @@
--- A field that is read is the field that was written, and what was written is read again.
+-- A field that is read is the field that was written.
 use Rattle.std.proofs.Common.{◌≡◌, ℕ, zero, suc, ◌+◌, ◌/◌, ◌%◌, ◌^◌, ◌<◌, ◌≤◌, Bool, true, false, ◌&&◌, ltb, eqb, leb, List, [], ◌∷◌, ◌++◌, length, get_or, take, drop, Option, Some, None, refl, sym, ap, subst, ◌∙◌, append_assoc, arith, inl, inr}
 use Rattle.std.specs.Prelude.{IsTrue, if◌then◌else◌, ◌==◌}
 use Rattle.std.specs.Int.{Width, w32, w64, byte_len, from_be_bytes, to_be_bytes, bytes_high_first}
@@ -15,6 +15,7 @@ use Rattle.gate_log.specs.Log.{four}
 use Rattle.counter_journal.specs.EntryOctets.{five, eight, front_octets, mode_octet, flag_octet, key_octets, facts_octets, job_octets}
 use Rattle.counter_journal.specs.EntryRanges.{IsFront}
 use Rattle.counter_journal.specs.EntryReading.{◌>>=◌, only_if, octet_at, number_at, counter_at, is_kvn, keyset_at, Front, front_at, mode_of, flag_of, manner_at, key_at, keys_in, facts_in, job_at, tar_at}
+use Rattle.counter_journal.specs.EntriesAgain.{some_is, widened, keyset_of_numbers, keyset_octets, IsKeyset, front_of, manner_octets, AreFacts, IsJob}
 
 -- each is an octet
 abbrev pub IsBytes : List ℕ → Type 0
@@ -49,12 +50,6 @@ only_if_some false x y e = absurd cc
 pub unless_some : {A : Type 0} (b : Bool) (x y : A) → (if b then None else Some x) ≡ Some y → (b ≡ false) × (x ≡ y)
 unless_some true x y e = absurd cc
 unless_some false x y e = (refl, cc)
-
-abbrev some : {A : Type 0} → A → Option A
-some x = Some x
-
-pub some_is : {A : Type 0} (x y : A) → some x ≡ some y → x ≡ y
-some_is x y e = cc
 
 pub both_true : (a b : Bool) → (a && b) ≡ true → (a ≡ true) × (b ≡ true)
 both_true true true e = (refl, refl)
@@ -108,10 +103,6 @@ eight_takes bytes n rest fits e =
     let taken : Takes bytes (eight (from_be_bytes w64 (take 8 bytes))) (drop 8 bytes) = subst (λ (t : List ℕ). Takes bytes t (drop 8 bytes)) (sym (eight_is _ ∙ back)) (front_taken 8 bytes fits) in
     subst (λ (x : ℕ × List ℕ). Takes bytes (eight x.0) x.1 × (x.0 < 2 ^ 64)) g.1 (taken, below)
 
--- three zeros in front of five octets
-abbrev widened : List ℕ → List ℕ
-widened octets = 0 ∷ 0 ∷ 0 ∷ octets
-
 IsBytes-widened : (octets : List ℕ) → IsBytes octets → IsBytes (widened octets)
 IsBytes-widened octets fits zero = omega arith
 IsBytes-widened octets fits (suc zero) = omega arith
@@ -133,44 +124,7 @@ counter_takes bytes n rest fits e =
     let taken : Takes bytes (five (from_be_bytes w64 (widened (take 5 bytes)))) (drop 5 bytes) = subst (λ (t : List ℕ). Takes bytes t (drop 5 bytes)) (sym back) (front_taken 5 bytes fits) in
     subst (λ (x : ℕ × List ℕ). Takes bytes (five x.0) x.1 × (x.0 < 2 ^ 40)) g.1 (taken, below)
 
-long_enough : (n : ℕ) (text rest : List ℕ) → length text ≡ n → ltb (length (text ++ rest)) n ≡ false
-long_enough n text rest len = le-ltb _ _ (omega (arith, len, length-append text rest))
-
-pub four_again : (n : ℕ) (rest : List ℕ) → n < 2 ^ 32 → number_at w32 (four n ++ rest) ≡ Some (n, rest)
-unfolding four
-four_again n rest below =
-    rw (long_enough 4 (to_be_bytes w32 n) rest refl, from_be_bytes-to_be_bytes_4 n below) refl
-
-pub eight_again : (n : ℕ) (rest : List ℕ) → n < 2 ^ 64 → number_at w64 (eight n ++ rest) ≡ Some (n, rest)
-unfolding eight
-eight_again n rest below =
-    rw (long_enough 8 (to_be_bytes w64 n) rest refl, from_be_bytes-to_be_bytes_8 n below) refl
-
-high_zeros : (n : ℕ) → n < 2 ^ 40 → to_be_bytes w64 n ≡ widened (bytes_high_first 5 n)
-high_zeros n below =
-    let a : n / 72057594037927936 % 256 ≡ 0 = omega arith in
-    let b : n / 281474976710656 % 256 ≡ 0 = omega arith in
-    let c : n / 1099511627776 % 256 ≡ 0 = omega arith in
-    λ i. a i ∷ b i ∷ c i ∷ bytes_high_first 5 n
-
-pub counter_again : (n : ℕ) (rest : List ℕ) → n < 2 ^ 40 → counter_at (five n ++ rest) ≡ Some (n, rest)
-unfolding five
-counter_again n rest below =
-    let back : from_be_bytes w64 (widened (bytes_high_first 5 n)) ≡ n = ap (from_be_bytes w64) (sym (high_zeros n below)) ∙ from_be_bytes-to_be_bytes_8 n (omega arith) in
-    rw (long_enough 5 (bytes_high_first 5 n) rest refl, back) refl
-
 -- ---- what each entry begins with
-
-abbrev keyset_of_numbers : ℕ → ℕ → Keyset
-keyset_of_numbers card kvn = record { card = record { 0 = card }; kvn = kvn }
-
-abbrev keyset_octets : Keyset → List ℕ
-keyset_octets keyset = eight keyset.card.0 ++ keyset.kvn ∷ []
-
-pub record IsKeyset (keyset : Keyset) : Type 0 where
-  pub card_fits : keyset.card.0 < 2 ^ 64
-  pub kvn_above : 1 ≤ keyset.kvn
-  pub kvn_below : keyset.kvn ≤ 15
 
 keyset_takes : (bytes : List ℕ) (keyset : Keyset) (rest : List ℕ) → IsBytes bytes → keyset_at bytes ≡ Some (keyset, rest)
     → Takes bytes (keyset_octets keyset) rest × IsKeyset keyset
@@ -185,18 +139,6 @@ keyset_takes bytes keyset rest fits e =
     let whole = Takes-then bytes (eight a.0.0) a.0.1 (b.0.0 ∷ []) b.0.1 t0.0 t1 in
     subst (λ (x : Keyset × List ℕ). Takes bytes (keyset_octets x.0) x.1 × IsKeyset x.0) g.1
     (whole, record { card_fits = t0.1; kvn_above = leb-true 1 b.0.0 range.0; kvn_below = leb-true b.0.0 15 range.1 })
-
-kvn_true : (kvn : ℕ) → 1 ≤ kvn → kvn ≤ 15 → is_kvn kvn ≡ true
-kvn_true kvn above below = and_from (leb 1 kvn) (leb kvn 15) (le-leb 1 kvn above) (le-leb kvn 15 below)
-
-keyset_again : (keyset : Keyset) (rest : List ℕ) → IsKeyset keyset → keyset_at (keyset_octets keyset ++ rest) ≡ Some (keyset, rest)
-unfolding keyset_at
-keyset_again keyset rest is =
-    ap keyset_at (append_assoc (eight keyset.card.0) (keyset.kvn ∷ []) rest)
-    ∙ rw (eight_again keyset.card.0 (keyset.kvn ∷ rest) is.card_fits, kvn_true keyset.kvn is.kvn_above is.kvn_below) refl
-
-abbrev pub front_of : ℕ → ℕ → Keyset → Front
-front_of kind by keyset = record { kind = kind; by = by; keyset = keyset }
 
 pub front_takes : (bytes : List ℕ) (front : Front) (rest : List ℕ) → IsBytes bytes → front_at bytes ≡ Some (front, rest)
     → Takes bytes (front_octets front.kind front.by front.keyset) rest × IsFront front.by front.keyset
@@ -214,12 +156,6 @@ front_takes bytes front rest fits e =
     subst (λ (x : Front × List ℕ). Takes bytes (front_octets x.0.kind x.0.by x.0.keyset) x.1 × IsFront x.0.by x.0.keyset) (some_is (front_of a.0.0 b.0.0 c.0.0, c.0.1) (front, rest) c.2)
     (e02, is)
 
-pub front_again : (kind by : ℕ) (keyset : Keyset) (rest : List ℕ) → IsFront by keyset → front_at (front_octets kind by keyset ++ rest) ≡ Some (front_of kind by keyset, rest)
-unfolding front_at four
-front_again kind by keyset rest is =
-    ap (λ (l : List ℕ). front_at (kind ∷ l)) (append_assoc (four by) (keyset_octets keyset) rest)
-    ∙ rw (four_again by (keyset_octets keyset ++ rest) is.by_fits, keyset_again keyset rest (record { card_fits = is.card_fits; kvn_above = is.kvn_above; kvn_below = is.kvn_below })) refl
-
 -- ---- what a keyset is opened with
 
 mode_cases : (octet : ℕ) (mode : Mode) (two three : Bool) → (octet == 2) ≡ two → (octet == 3) ≡ three
@@ -231,10 +167,6 @@ mode_cases octet mode false false is_two is_three e = absurd cc
 mode_is : (octet : ℕ) (mode : Mode) → mode_of octet ≡ Some mode → octet ≡ mode_octet mode
 mode_is octet mode e = mode_cases octet mode (octet == 2) (octet == 3) refl refl e
 
-mode_again : (mode : Mode) → mode_of (mode_octet mode) ≡ Some mode
-mode_again Higher = refl
-mode_again Next = refl
-
 flag_cases : (octet : ℕ) (flag zero_octet one : Bool) → (octet == 0) ≡ zero_octet → (octet == 1) ≡ one
     → (if zero_octet then Some false else (if one then Some true else None)) ≡ Some flag → octet ≡ flag_octet flag
 flag_cases octet flag true one is_zero is_one e = eqb-true octet 0 is_zero ∙ ap flag_octet (some_is false flag e)
@@ -243,13 +175,6 @@ flag_cases octet flag false false is_zero is_one e = absurd cc
 
 flag_is : (octet : ℕ) (flag : Bool) → flag_of octet ≡ Some flag → octet ≡ flag_octet flag
 flag_is octet flag e = flag_cases octet flag (octet == 0) (octet == 1) refl refl e
-
-flag_again : (flag : Bool) → flag_of (flag_octet flag) ≡ Some flag
-flag_again true = refl
-flag_again false = refl
-
-abbrev manner_octets : Mode × Bool → List ℕ
-manner_octets manner = mode_octet manner.0 ∷ flag_octet manner.1 ∷ []
 
 manner_takes : (bytes : List ℕ) (manner : Mode × Bool) (rest : List ℕ) → IsBytes bytes → manner_at bytes ≡ Some (manner, rest) → Takes bytes (manner_octets manner) rest
 unfolding manner_at
@@ -262,10 +187,6 @@ manner_takes (first ∷ second ∷ bytes) manner rest fits e =
     subst (λ (x : (Mode × Bool) × List ℕ). Takes (first ∷ second ∷ bytes) (manner_octets x.0) x.1) (some_is ((a.0, b.0), bytes) (manner, rest) b.2)
     (record { parts = is; rest_fits = IsBytes-rest second bytes (IsBytes-rest first (second ∷ bytes) fits) })
 
-manner_again : (mode : Mode) (flag : Bool) (rest : List ℕ) → manner_at (manner_octets (mode, flag) ++ rest) ≡ Some ((mode, flag), rest)
-unfolding manner_at
-manner_again mode flag rest = rw (mode_again mode, flag_again flag) refl
-
 key_takes : (bytes key rest : List ℕ) → IsBytes bytes → key_at bytes ≡ Some (key, rest) → Takes bytes (key_octets key) rest × IsTrue (is_key_length (length key))
 unfolding key_at
 key_takes [] key rest fits e = absurd cc
@@ -277,12 +198,6 @@ key_takes (size ∷ bytes) key rest fits e =
     let is : size ∷ bytes ≡ key_octets (take size bytes) ++ drop size bytes = ap (λ (n : ℕ). n ∷ bytes) (sym len) ∙ ap (λ (l : List ℕ). length (take size bytes) ∷ l) (sym (take-append-drop size bytes)) in
     subst (λ (x : List ℕ × List ℕ). Takes (size ∷ bytes) (key_octets x.0) x.1 × IsTrue (is_key_length (length x.0))) g.1
     (record { parts = is; rest_fits = IsBytes-drop size bytes (IsBytes-rest size bytes fits) }, ap is_key_length len ∙ tests.0)
-
-key_again : (key rest : List ℕ) → IsTrue (is_key_length (length key)) → key_at (key_octets key ++ rest) ≡ Some (key, rest)
-unfolding key_at
-key_again key rest is =
-    let within : leb (length key) (length (key ++ rest)) ≡ true = le-leb _ _ (omega (arith, length-append key rest)) in
-    rw (is, within, take_at key rest (length key) refl, drop_at key rest (length key) refl) refl
 
 keys_takes : (bytes kic kid : List ℕ) → IsBytes bytes → keys_in bytes ≡ Some (kic, kid)
     → (bytes ≡ key_octets kic ++ key_octets kid) × IsTrue (is_key_length (length kic)) × IsTrue (is_key_length (length kid))
@@ -298,18 +213,6 @@ keys_takes bytes kic kid fits e =
     let is : bytes ≡ key_octets a.0.0 ++ key_octets b.0.0 = t0.0.parts ∙ ap (λ (r : List ℕ). key_octets a.0.0 ++ r) last in
     subst (λ (x : List ℕ × List ℕ). (bytes ≡ key_octets x.0 ++ key_octets x.1) × IsTrue (is_key_length (length x.0)) × IsTrue (is_key_length (length x.1))) g.1
     (is, t0.1, t1.1)
-
-keys_again : (kic kid : List ℕ) → IsTrue (is_key_length (length kic)) → IsTrue (is_key_length (length kid)) → keys_in (key_octets kic ++ key_octets kid) ≡ Some (kic, kid)
-unfolding keys_in
-keys_again kic kid is_kic is_kid =
-    let last : key_at (key_octets kid) ≡ Some (kid, []) = ap key_at (sym (append-nil (key_octets kid))) ∙ key_again kid [] is_kid in
-    rw (key_again kic (key_octets kid) is_kic, last) refl
-
--- the numbers of facts fit their octets
-pub record AreFacts (facts : KeysetFacts) : Type 0 where
-  pub base_fits : facts.base < 2 ^ 40
-  pub kic_long : IsTrue (is_key_length (length facts.kic))
-  pub kid_long : IsTrue (is_key_length (length facts.kid))
 
 abbrev facts_with : ℕ → Mode × Bool → List ℕ × List ℕ → KeysetFacts
 facts_with base manner keys = record { base = base; mode = manner.0; ciphered = manner.1; kic = keys.0; kid = keys.1 }
@@ -328,21 +231,10 @@ facts_takes bytes facts fits e =
     subst (λ (x : KeysetFacts). (bytes ≡ facts_octets x) × AreFacts x) (some_is (facts_with a.0.0 b.0.0 c.0) facts c.2)
     (is, record { base_fits = t0.1; kic_long = t2.1; kid_long = t2.2 })
 
-pub facts_again : (facts : KeysetFacts) → AreFacts facts → facts_in (facts_octets facts) ≡ Some facts
-unfolding facts_in five
-facts_again facts are =
-    rw (counter_again facts.base (manner_octets (facts.mode, facts.ciphered) ++ (key_octets facts.kic ++ key_octets facts.kid)) are.base_fits,
-    manner_again facts.mode facts.ciphered (key_octets facts.kic ++ key_octets facts.kid),
-    keys_again facts.kic facts.kid are.kic_long are.kid_long) refl
-
 -- ---- jobs and applications
 
 abbrev job_of : ℕ → ℕ → JobId
 job_of campaign job = record { campaign = campaign; job = job }
-
-pub record IsJob (job : JobId) : Type 0 where
-  pub campaign_fits : job.campaign < 2 ^ 32
-  pub job_fits : job.job < 2 ^ 32
 
 pub job_takes : (bytes : List ℕ) (job : JobId) (rest : List ℕ) → IsBytes bytes → job_at bytes ≡ Some (job, rest) → Takes bytes (job_octets job) rest × IsJob job
 unfolding job_at
@@ -355,18 +247,9 @@ job_takes bytes job rest fits e =
     subst (λ (x : JobId × List ℕ). Takes bytes (job_octets x.0) x.1 × IsJob x.0) (some_is (job_of a.0.0 b.0.0, b.0.1) (job, rest) b.2)
     (whole, record { campaign_fits = t0.1; job_fits = t1.1 })
 
-pub job_again : (job : JobId) (rest : List ℕ) → IsJob job → job_at (job_octets job ++ rest) ≡ Some (job, rest)
-unfolding job_at
-job_again job rest is =
-    ap job_at (append_assoc (four job.campaign) (four job.job) rest)
-    ∙ rw (four_again job.campaign (four job.job ++ rest) is.campaign_fits, four_again job.job rest is.job_fits) refl
-
 pub tar_takes : (bytes tar rest : List ℕ) → IsBytes bytes → tar_at bytes ≡ Some (tar, rest) → Takes bytes tar rest × (length tar ≡ 3)
 tar_takes bytes tar rest fits e =
     let g = unless_some (ltb (length bytes) 3) (take 3 bytes, drop 3 bytes) (tar, rest) e in
     let long : 3 ≤ length bytes = ltb-false _ _ g.0 in
     let len : length (take 3 bytes) ≡ 3 = omega (arith, long, length-take 3 bytes) in
     subst (λ (x : List ℕ × List ℕ). Takes bytes x.0 x.1 × (length x.0 ≡ 3)) g.1 (front_taken 3 bytes fits, len)
-
-pub tar_again : (tar rest : List ℕ) → length tar ≡ 3 → tar_at (tar ++ rest) ≡ Some (tar, rest)
-tar_again tar rest len = rw (long_enough 3 tar rest len, take_at tar rest 3 len, drop_at tar rest 3 len) refl

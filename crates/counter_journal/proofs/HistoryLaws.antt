@@ -15,7 +15,8 @@ use Rattle.counter_journal.specs.EntryReading.{entry_in}
 use Rattle.counter_journal.specs.JournalReading.{parts_for, IsBad, StopsAt}
 use Rattle.counter_journal.specs.HistoryReading.{IsRead, IsNext, belongs}
 use Rattle.counter_journal.proofs.FieldLaws.{IsBytes, both_true}
-use Rattle.counter_journal.proofs.EntryLaws.{entry_takes, entry_again, one_entry}
+use Rattle.counter_journal.specs.EntriesAgain.{entry_again, one_entry}
+use Rattle.counter_journal.proofs.EntryLaws.{entry_takes}
 
 -- what the reading of a part says
 pub is_read : (part : List ℕ) (found : Option Entry) → IsBytes part → found ≡ entry_in part → IsRead part found

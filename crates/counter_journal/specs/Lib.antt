@@ -7,4 +7,6 @@ pub mod JournalKept
 pub mod JournalMaking
 pub mod HistoryReading
 pub mod Causes
+pub mod EntriesAgain
+pub mod JournalLaws
 pub mod Laws

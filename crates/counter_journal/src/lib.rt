@@ -10,8 +10,10 @@ mod formats;
 mod heads;
 mod histories_read;
 mod journals;
+mod laws;
 mod narrow_journal;
 
 pub use formats::format;
 pub use journals::Journal;
+pub use laws::{one_history, written_entries_are_read};
 pub use narrow_journal::{NarrowJournal, JournalErr};
