@@ -12,12 +12,7 @@ use ota_core::{Entry, History, KeysetId, Memory, Octets};
 use std::alloc::Global;
 
 /// The history of the lane whose entries these parts are, or the number of the first part that is bad.
-pub fn history_of(
-    alloc: Global,
-    parts: &[Octets],
-    lane: u16,
-    lanes: u16,
-) -> Result<History, LogErr>
+pub fn history_of(alloc: Global, parts: &[Octets], lane: u16, lanes: u16) -> Result<History, LogErr>
     requires { 0 < lanes }
     ensures { HistoryAnswer lane lanes parts.now result }
 {

@@ -42,7 +42,7 @@ pub struct Journal {
 
 impl Model for Journal {
     ghost use Rattle.counter_journal.specs.HistoryReading.{PartsAnswer, is_damage};
-ghost use Rattle.counter_journal.specs.JournalReading.{JournalValue};
+    ghost use Rattle.counter_journal.specs.JournalReading.{JournalValue};
     ghost use Rattle.counter_journal.specs.JournalKept.{IsJournalKept};
 
     ghost Value = { JournalValue };

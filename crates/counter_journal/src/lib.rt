@@ -16,4 +16,7 @@ mod narrow_journal;
 pub use formats::format;
 pub use journals::Journal;
 pub use laws::{one_history, written_entries_are_read};
-pub use narrow_journal::{NarrowJournal, JournalErr};
+pub use narrow_journal::{JournalErr, NarrowJournal};
+
+#[cfg(test)]
+mod tests;

@@ -1,0 +1,540 @@
+// Journals on disks in memory: their octets, what they hold, what is refused, and what stands after a stop at each call.
+ghost use Rattle.std.specs.Prelude.{◌≡◌, ◌<◌, IfOk};
+ghost use Rattle.counter_journal.specs.EntryRanges.{IsSized, IsOfLane};
+
+use crate::{Journal, format};
+use disk_model::{DiskCalls, DiskFault, Image, MemDisk, SimCalls};
+use gate_log::LogErr;
+use ota_core::{
+    CardId, Counter, Entry, JobId, KeyBytes, KeysetFacts, KeysetId, Memory, Mode, Octets, Tar,
+};
+use std::alloc::Global;
+use std::test::Fail;
+
+/// The keyset 1 of card 8901 (22C5) is opened by the session: counter 0, process only if higher, ciphered, two keys of
+/// 16 octets. 55 octets.
+const OPEN: &[u8] = &[
+    0x01, 0x00, 0x00, 0x00, 0x00, 0x00, 0x00, 0x00, 0x00, 0x00, 0x00, 0x22, 0xC5, 0x01, 0x00, 0x00,
+    0x00, 0x00, 0x00, 0x02, 0x01, 0x10, 0x00, 0x01, 0x02, 0x03, 0x04, 0x05, 0x06, 0x07, 0x08, 0x09,
+    0x0A, 0x0B, 0x0C, 0x0D, 0x0E, 0x0F, 0x10, 0x2B, 0x7E, 0x15, 0x16, 0x28, 0xAE, 0xD2, 0xA6, 0xAB,
+    0xF7, 0x15, 0x88, 0x09, 0xCF, 0x4F, 0x3C,
+];
+
+/// Sender 1 reserves its counter 1 for job 1 of campaign 7, the application B00010 and a script of 22 octets. 52 octets.
+const RESERVE: &[u8] = &[
+    0x02, 0x00, 0x00, 0x00, 0x01, 0x00, 0x00, 0x00, 0x00, 0x00, 0x00, 0x22, 0xC5, 0x01, 0x00, 0x00,
+    0x00, 0x00, 0x01, 0x00, 0x00, 0x00, 0x07, 0x00, 0x00, 0x00, 0x01, 0xB0, 0x00, 0x10, 0x00, 0xA4,
+    0x00, 0x00, 0x02, 0x7F, 0x10, 0x00, 0xA4, 0x00, 0x00, 0x02, 0x6F, 0x3A, 0x00, 0xD6, 0x00, 0x00,
+    0x03, 0xAA, 0xBB, 0xCC,
+];
+
+/// The answer to counter 1 is 036981. 22 octets.
+const DONE: &[u8] = &[
+    0x03, 0x00, 0x00, 0x00, 0x01, 0x00, 0x00, 0x00, 0x00, 0x00, 0x00, 0x22, 0xC5, 0x01, 0x00, 0x00,
+    0x00, 0x00, 0x01, 0x03, 0x69, 0x81,
+];
+
+/// Counter 1 is refused with status 09. 20 octets.
+const REFUSED: &[u8] = &[
+    0x04, 0x00, 0x00, 0x00, 0x01, 0x00, 0x00, 0x00, 0x00, 0x00, 0x00, 0x22, 0xC5, 0x01, 0x00, 0x00,
+    0x00, 0x00, 0x01, 0x09,
+];
+
+/// The session closes the keyset. 14 octets.
+const CLOSE: &[u8] = &[
+    0x05, 0x00, 0x00, 0x00, 0x00, 0x00, 0x00, 0x00, 0x00, 0x00, 0x00, 0x22, 0xC5, 0x01,
+];
+
+/// Three commands of a file script.
+const SCRIPT: [u8; 22] = [
+    0x00, 0xA4, 0x00, 0x00, 0x02, 0x7F, 0x10, 0x00, 0xA4, 0x00, 0x00, 0x02, 0x6F, 0x3A, 0x00, 0xD6,
+    0x00, 0x00, 0x03, 0xAA, 0xBB, 0xCC,
+];
+
+const KIC: [u8; 16] = [
+    0x00, 0x01, 0x02, 0x03, 0x04, 0x05, 0x06, 0x07, 0x08, 0x09, 0x0A, 0x0B, 0x0C, 0x0D, 0x0E, 0x0F,
+];
+
+const KID: [u8; 16] = [
+    0x2B, 0x7E, 0x15, 0x16, 0x28, 0xAE, 0xD2, 0xA6, 0xAB, 0xF7, 0x15, 0x88, 0x09, 0xCF, 0x4F, 0x3C,
+];
+
+fn keyset() -> KeysetId
+    ensures { result.card.0 ≡ 8901 }
+{
+    KeysetId {
+        card: CardId(8901),
+        kvn: 1,
+    }
+}
+
+fn opened() -> Result<Entry, Fail>
+    ensures sized { IfOk result IsSized }
+    ensures of_lane { IfOk result (IsOfLane 0 1) }
+{
+    let kic = KeyBytes::new(&KIC).ok().ok_or("a key has 16 octets")?;
+    let kid = KeyBytes::new(&KID).ok().ok_or("a key has 16 octets")?;
+    let facts = KeysetFacts {
+        base: Counter(0),
+        mode: Mode::Higher,
+        ciphered: true,
+        kic,
+        kid,
+    };
+    Ok(Entry::Open {
+        by: 0,
+        keyset: keyset(),
+        facts,
+    })
+}
+
+fn reserved(alloc: Global) -> Result<Entry, Memory>
+    ensures sized { IfOk result IsSized }
+    ensures of_lane { IfOk result (IsOfLane 0 1) }
+{
+    let body = Octets::from_slice(alloc, &SCRIPT)?;
+    Ok(Entry::Reserve {
+        by: 1,
+        keyset: keyset(),
+        counter: Counter(1),
+        job: JobId {
+            campaign: 7,
+            job: 1,
+        },
+        tar: Tar([0xB0, 0x00, 0x10]),
+        body,
+    })
+}
+
+fn done(alloc: Global) -> Result<Entry, Memory>
+    ensures sized { IfOk result IsSized }
+    ensures of_lane { IfOk result (IsOfLane 0 1) }
+{
+    let answer = Octets::from_slice(alloc, &[0x03, 0x69, 0x81])?;
+    Ok(Entry::Done {
+        by: 1,
+        keyset: keyset(),
+        counter: Counter(1),
+        answer,
+    })
+}
+
+fn refused() -> Entry
+    ensures sized { IsSized result }
+    ensures of_lane { IsOfLane 0 1 result }
+{
+    Entry::Refused {
+        by: 1,
+        keyset: keyset(),
+        counter: Counter(1),
+        status: 0x09,
+    }
+}
+
+fn closed() -> Entry
+    ensures sized { IsSized result }
+    ensures of_lane { IsOfLane 0 1 result }
+{
+    Entry::Close {
+        by: 0,
+        keyset: keyset(),
+    }
+}
+
+/// Octets of a journal of this lane whose entries have these octets, each in a batch of its own.
+fn journal(alloc: Global, lane: u8, lanes: u8, parts: &[&[u8]]) -> Result<Vec<u8>, Fail> {
+    let mut octets = vec![in alloc; 0xA5, 0x4F, 0x54, 0x41, 0x4A, 0x01, 0x00, lane, 0x00, lanes]?;
+    for part in parts {
+        let len = part.len() as u64;
+        octets.push(0xA5)?;
+        octets.extend_from_slice(&len.wrapping_add(4).to_be_bytes()[4..])?;
+        octets.extend_from_slice(&len.to_be_bytes()[4..])?;
+        octets.extend_from_slice(part)?;
+    }
+    octets.push(0x00)?;
+    Ok(octets)
+}
+
+/// The same with an open gate and a batch that runs past the end.
+fn broken(alloc: Global, lane: u8, lanes: u8, parts: &[&[u8]]) -> Result<Vec<u8>, Fail> {
+    let mut octets = journal(alloc, lane, lanes, parts)?;
+    let _ = octets.pop();
+    octets.extend_from_slice(&[0xA5, 0, 0, 0, 99])?;
+    Ok(octets)
+}
+
+fn are_same(one: &Entry, other: &Entry) -> bool {
+    match one {
+        Entry::Open { by, keyset, facts } => match other {
+            Entry::Open {
+                by: b,
+                keyset: k,
+                facts: f,
+            } => *by == *b && *keyset == *k && *facts == *f,
+            _ => false,
+        },
+        Entry::Reserve {
+            by,
+            keyset,
+            counter,
+            job,
+            tar,
+            body,
+        } => match other {
+            Entry::Reserve {
+                by: b,
+                keyset: k,
+                counter: c,
+                job: j,
+                tar: t,
+                body: s,
+            } => {
+                *by == *b
+                    && *keyset == *k
+                    && *counter == *c
+                    && *job == *j
+                    && *tar == *t
+                    && body.as_slice() == s.as_slice()
+            }
+            _ => false,
+        },
+        Entry::Done {
+            by,
+            keyset,
+            counter,
+            answer,
+        } => match other {
+            Entry::Done {
+                by: b,
+                keyset: k,
+                counter: c,
+                answer: a,
+            } => {
+                *by == *b && *keyset == *k && *counter == *c && answer.as_slice() == a.as_slice()
+            }
+            _ => false,
+        },
+        Entry::Refused {
+            by,
+            keyset,
+            counter,
+            status,
+        } => match other {
+            Entry::Refused {
+                by: b,
+                keyset: k,
+                counter: c,
+                status: s,
+            } => *by == *b && *keyset == *k && *counter == *c && *status == *s,
+            _ => false,
+        },
+        Entry::Close { by, keyset } => match other {
+            Entry::Close { by: b, keyset: k } => *by == *b && *keyset == *k,
+            _ => false,
+        },
+    }
+}
+
+/// Whether the journal of lane 0 of 1 holds these entries.
+fn holds<D: DiskCalls>(alloc: Global, disk: &mut D, entries: &[Entry]) -> Result<bool, LogErr> {
+    let journal = Journal::open(alloc, disk, 0, 1)?;
+    let held = journal.history().entries();
+    if held.len() != entries.len() {
+        return Ok(false);
+    }
+    for i in 0..held.len() {
+        if !are_same(&held[i], &entries[i]) {
+            return Ok(false);
+        }
+    }
+    Ok(true)
+}
+
+/// Opens the journal of lane 0 of 1 and adds an entry that may follow. The length of the journal then.
+fn added<D: DiskCalls>(alloc: Global, disk: &mut D, entry: Entry) -> Result<u64, LogErr>
+    requires sized { IsSized entry }
+    requires of_lane { IsOfLane 0 1 entry }
+{
+    let mut journal = Journal::open(alloc, disk, 0, 1)?;
+    journal.make_room(1)?;
+    if journal.history().may_add(&entry).is_err() {
+        return Err(LogErr::Damaged(0));
+    }
+    let entries = vec![in alloc; entry]?;
+    journal.add(disk, entries)?;
+    Ok(journal.length())
+}
+
+fn made<D: DiskCalls>(disk: &mut D) -> Result<(), LogErr> {
+    format(disk, 2, 3)
+}
+
+/// Whether the making of the journal of lane 2 of 3 answers so on a disk of these octets, and leaves those.
+fn is_made(
+    alloc: Global,
+    octets: &[u8],
+    answer: Result<(), LogErr>,
+    left: &[u8],
+) -> Result<bool, Fail> {
+    let mut disk = MemDisk::of(alloc, octets)?;
+    Ok(made(&mut disk) == answer && disk.content() == left)
+}
+
+#[test]
+fn a_journal_is_made_where_none_is(rt: HostRuntime) -> Result<(), Fail> {
+    let alloc = rt.alloc();
+    let empty = [
+        0xA5, 0x4F, 0x54, 0x41, 0x4A, 0x01, 0x00, 0x02, 0x00, 0x03, 0x00,
+    ];
+    assert!(rt; is_made(alloc, &[], Ok(()), &empty)?);
+    let whole = journal(alloc, 2, 3, &[OPEN])?;
+    assert!(rt; is_made(alloc, &whole, Ok(()), &whole)?);
+    let other = journal(alloc, 1, 4, &[])?;
+    assert!(rt; is_made(alloc, &other, Err(LogErr::OtherHead([0, 1, 0, 4])), &other)?);
+    let text = b"no journal at all".as_slice();
+    assert!(rt; is_made(alloc, text, Err(LogErr::NotALog), text)?);
+    Ok(())
+}
+
+/// Whether an entry that is added to these makes a journal of so many octets, which are those of these entries.
+fn adds(
+    alloc: Global,
+    parts: &[&[u8]],
+    entry: Entry,
+    length: u64,
+    more: &[&[u8]],
+) -> Result<bool, Fail>
+    requires sized { IsSized entry }
+    requires of_lane { IsOfLane 0 1 entry }
+{
+    let mut disk = MemDisk::of(alloc, &journal(alloc, 0, 1, parts)?)?;
+    let whole = journal(alloc, 0, 1, more)?;
+    Ok(added(alloc, &mut disk, entry) == Ok(length) && disk.content() == whole.as_slice())
+}
+
+#[test]
+fn entries_are_added_by_their_octets(rt: HostRuntime) -> Result<(), Fail> {
+    let alloc = rt.alloc();
+    assert!(rt; adds(alloc, &[], opened()?, 75, &[OPEN])?);
+    assert!(rt; adds(alloc, &[OPEN], reserved(alloc)?, 136, &[OPEN, RESERVE])?);
+    assert!(rt;
+        adds(
+            alloc,
+            &[OPEN, RESERVE],
+            done(alloc)?,
+            167,
+            &[OPEN, RESERVE, DONE]
+        )?
+    );
+    Ok(())
+}
+
+#[test]
+fn a_refusal_and_a_close_are_added_by_their_octets(rt: HostRuntime) -> Result<(), Fail> {
+    let alloc = rt.alloc();
+    assert!(rt;
+        adds(
+            alloc,
+            &[OPEN, RESERVE],
+            refused(),
+            165,
+            &[OPEN, RESERVE, REFUSED]
+        )?
+    );
+    assert!(rt; adds(alloc, &[OPEN], closed(), 98, &[OPEN, CLOSE])?);
+    Ok(())
+}
+
+/// Whether the journal of these octets holds these entries.
+fn reads(alloc: Global, parts: &[&[u8]], entries: &[Entry]) -> Result<bool, Fail> {
+    let mut disk = MemDisk::of(alloc, &journal(alloc, 0, 1, parts)?)?;
+    Ok(holds(alloc, &mut disk, entries) == Ok(true))
+}
+
+#[test]
+fn entries_are_read_back(rt: HostRuntime) -> Result<(), Fail> {
+    let alloc = rt.alloc();
+    let answered = vec![in alloc; opened()?, reserved(alloc)?, done(alloc)?]?;
+    assert!(rt; reads(alloc, &[OPEN, RESERVE, DONE], &answered)?);
+    let settled = vec![in alloc; opened()?, reserved(alloc)?, refused(), closed()]?;
+    assert!(rt; reads(alloc, &[OPEN, RESERVE, REFUSED, CLOSE], &settled)?);
+    Ok(())
+}
+
+/// Why a disk of these octets is no journal of lane 0 of 1, of which it leaves them all.
+fn refusal(alloc: Global, octets: &[u8], lane: u16, lanes: u16) -> Result<Option<LogErr>, Fail>
+    requires { lane < lanes }
+{
+    let mut disk = MemDisk::of(alloc, octets)?;
+    let refused = Journal::open(alloc, &mut disk, lane, lanes).err();
+    if disk.content() != octets {
+        return Ok(None);
+    }
+    Ok(refused)
+}
+
+#[test]
+fn what_is_no_journal_of_the_lane_is_refused(rt: HostRuntime) -> Result<(), Fail> {
+    let alloc = rt.alloc();
+    let unformatted = Some(LogErr::Unformatted);
+    assert_eq!(rt; refusal(alloc, &[], 0, 1)?, unformatted);
+    let text = b"no journal at all".as_slice();
+    assert_eq!(rt; refusal(alloc, text, 0, 1)?, Some(LogErr::NotALog));
+    let four = journal(alloc, 0, 4, &[])?;
+    let of_four = Some(LogErr::OtherHead([0, 0, 0, 4]));
+    assert_eq!(rt; refusal(alloc, &four, 0, 3)?, of_four);
+    let second = journal(alloc, 1, 4, &[])?;
+    let is_second = Some(LogErr::OtherHead([0, 1, 0, 4]));
+    assert_eq!(rt; refusal(alloc, &second, 0, 4)?, is_second);
+    Ok(())
+}
+
+/// An entry with another octet at this place.
+fn changed(alloc: Global, part: &[u8], place: usize, octet: u8) -> Result<Vec<u8>, Memory> {
+    let mut octets = Vec::from_slice(alloc, part)?;
+    if place < octets.len() {
+        octets[place] = octet;
+    }
+    Ok(octets)
+}
+
+fn longer(alloc: Global, part: &[u8]) -> Result<Vec<u8>, Memory> {
+    let mut octets = Vec::from_slice(alloc, part)?;
+    octets.push(0x00)?;
+    Ok(octets)
+}
+
+/// Whether an opening names this part of the journal of lane 1 of 2 as the first that is damaged.
+fn is_damaged(alloc: Global, octets: &[u8], number: u64) -> Result<bool, Fail> {
+    Ok(refusal(alloc, octets, 1, 2)? == Some(LogErr::Damaged(number)))
+}
+
+#[test]
+fn the_first_part_that_is_wrong_is_named(rt: HostRuntime) -> Result<(), Fail> {
+    let alloc = rt.alloc();
+    let ninth = changed(alloc, OPEN, 0, 0x09)?;
+    assert!(rt; is_damaged(alloc, &journal(alloc, 1, 2, &[&ninth, OPEN])?, 1)?);
+    let other_card = changed(alloc, OPEN, 12, 0xC4)?;
+    assert!(rt; is_damaged(alloc, &journal(alloc, 1, 2, &[OPEN, &other_card])?, 2)?);
+    let other_job = changed(alloc, RESERVE, 26, 0x02)?;
+    let third = changed(alloc, &other_job, 18, 0x03)?;
+    assert!(rt; is_damaged(alloc, &journal(alloc, 1, 2, &[OPEN, RESERVE, &third])?, 3)?);
+    assert!(rt; is_damaged(alloc, &broken(alloc, 1, 2, &[OPEN, RESERVE])?, 3)?);
+    assert!(rt; is_damaged(alloc, &broken(alloc, 1, 2, &[OPEN, &third])?, 2)?);
+    assert!(rt; is_damaged(alloc, &broken(alloc, 1, 2, &[RESERVE])?, 1)?);
+    Ok(())
+}
+
+#[test]
+fn what_is_no_entry_is_named(rt: HostRuntime) -> Result<(), Fail> {
+    let alloc = rt.alloc();
+    // key version numbers 0 and 16, another counter mode, another flag, a key of 17 octets
+    for (place, octet) in [(13usize, 0u8), (13, 16), (19, 0x01), (20, 0x02), (21, 0x11)] {
+        let part = changed(alloc, OPEN, place, octet)?;
+        assert!(rt; is_damaged(alloc, &journal(alloc, 1, 2, &[&part])?, 1)?);
+    }
+    assert!(rt; is_damaged(alloc, &journal(alloc, 1, 2, &[&OPEN[..54]])?, 1)?);
+    let long_open = longer(alloc, OPEN)?;
+    assert!(rt; is_damaged(alloc, &journal(alloc, 1, 2, &[&long_open])?, 1)?);
+    assert!(rt; is_damaged(alloc, &journal(alloc, 1, 2, &[&[]])?, 1)?);
+    Ok(())
+}
+
+#[test]
+fn what_is_no_settlement_is_named(rt: HostRuntime) -> Result<(), Fail> {
+    let alloc = rt.alloc();
+    // no script, a counter of four octets, no status
+    for part in [&RESERVE[..30], &DONE[..18], &REFUSED[..19]] {
+        assert!(rt; is_damaged(alloc, &journal(alloc, 1, 2, &[OPEN, RESERVE, part])?, 3)?);
+    }
+    let two_octets = longer(alloc, REFUSED)?;
+    assert!(rt;
+        is_damaged(
+            alloc,
+            &journal(alloc, 1, 2, &[OPEN, RESERVE, &two_octets])?,
+            3
+        )?
+    );
+    let long_close = longer(alloc, CLOSE)?;
+    assert!(rt; is_damaged(alloc, &journal(alloc, 1, 2, &[OPEN, &long_close])?, 2)?);
+    Ok(())
+}
+
+/// A disk of these octets whose call fails and leaves this image.
+fn armed(alloc: Global, octets: &[u8], call: u32, image: Image) -> Result<MemDisk, Fail> {
+    let mut disk = MemDisk::of(alloc, octets)?;
+    disk.arm(call, image);
+    Ok(disk)
+}
+
+/// Whether the journal of lane 0 of 1 holds the first two entries, or with `third` all three.
+fn holds_up_to<D: DiskCalls>(alloc: Global, disk: &mut D, third: bool) -> Result<bool, Fail> {
+    let mut entries = vec![in alloc; opened()?, reserved(alloc)?]?;
+    if third {
+        entries.push(done(alloc)?)?;
+    }
+    Ok(holds(alloc, disk, &entries) == Ok(true))
+}
+
+/// Whether a stop at this call of an opening and an addition leaves the entry whole or not at all. The calls are sync,
+/// len and read, len and read, and then write, sync, write and sync.
+fn is_whole_or_absent(alloc: Global, call: u32, image: Image) -> Result<bool, Fail> {
+    let octets = journal(alloc, 0, 1, &[OPEN, RESERVE])?;
+    let mut disk = armed(alloc, &octets, call, image)?;
+    let answer = added(alloc, &mut disk, done(alloc)?);
+    let fails = answer == Err(LogErr::DiskFault(DiskFault::Failed));
+    // the gate stands open where the last sync failed and its image is the new one
+    let third = call == 9 && image == Image::New;
+    Ok(fails && holds_up_to(alloc, &mut disk, third)?)
+}
+
+#[test]
+fn a_stop_at_each_call_leaves_the_entry_whole_or_not_at_all(rt: HostRuntime) -> Result<(), Fail> {
+    for image in [Image::Old, Image::New, Image::Torn] {
+        for call in 1..10 {
+            assert!(rt; is_whole_or_absent(rt.alloc(), call, image)?);
+        }
+    }
+    Ok(())
+}
+
+/// Whether a stop after an addition leaves the entry.
+fn is_durable(alloc: Global, image: Image) -> Result<bool, Fail> {
+    let mut disk = MemDisk::of(alloc, &journal(alloc, 0, 1, &[OPEN, RESERVE])?)?;
+    if added(alloc, &mut disk, done(alloc)?) != Ok(167) {
+        return Ok(false);
+    }
+    let mut stopped = disk.stopped(image)?;
+    holds_up_to(alloc, &mut stopped, true)
+}
+
+#[test]
+fn an_entry_that_was_added_is_durable(rt: HostRuntime) -> Result<(), Fail> {
+    for image in [Image::Old, Image::New, Image::Torn] {
+        assert!(rt; is_durable(rt.alloc(), image)?);
+    }
+    Ok(())
+}
+
+/// Whether the entries stand after a stop at this call of an opening that cuts octets off: sync, len, read, cut, sync,
+/// len and read.
+fn opens_again(alloc: Global, call: u32, image: Image) -> Result<bool, Fail> {
+    let whole = journal(alloc, 0, 1, &[OPEN, RESERVE])?;
+    let mut octets = journal(alloc, 0, 1, &[OPEN, RESERVE])?;
+    octets.extend_from_slice(&[0xA5, 0, 0, 0, 9])?;
+    let mut disk = armed(alloc, &octets, call, image)?;
+    let failed = Journal::open(alloc, &mut disk, 0, 1).err();
+    let fails = failed == Some(LogErr::DiskFault(DiskFault::Failed));
+    let stands = holds_up_to(alloc, &mut disk, false)?;
+    Ok(fails && stands && disk.content() == whole.as_slice())
+}
+
+#[test]
+fn a_stop_at_each_call_of_an_opening_leaves_the_entries(rt: HostRuntime) -> Result<(), Fail> {
+    for image in [Image::Old, Image::New, Image::Torn] {
+        for call in 1..8 {
+            assert!(rt; opens_again(rt.alloc(), call, image)?);
+        }
+    }
+    Ok(())
+}
