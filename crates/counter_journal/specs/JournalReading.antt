@@ -99,6 +99,11 @@ AddAnswer journal count need (Err (log_err.DiskFault fault)) = journal.length + 
 AddAnswer journal count need (Err (log_err.Full at needed)) = (LIMIT < journal.length + need) × (at ≡ journal.length) × (needed ≡ need)
 AddAnswer journal count need (Err other) = ⊥
 
+-- memory was there for the octets of the entries
+abbrev pub UnlessWanting : Result (Unit {0}) LogErr → Type 0 → Type 0
+UnlessWanting (Err log_err.Memory) P = Unit {0}
+UnlessWanting result P = P
+
 -- want of memory and want of room come before the first device call
 abbrev pub IsBeforeCalls : LogErr → Type 0
 IsBeforeCalls log_err.Memory = Unit {0}

@@ -7,10 +7,10 @@ ghost use Rattle.gate_log.specs.Reading.{parts_of};
 ghost use Rattle.gate_log.specs.Answers.{LogCause, UnlessFault, IsNotFull};
 ghost use Rattle.gate_log.specs.Opening.{OpensAlike, AppendTicks, need_of};
 ghost use Rattle.ota_core.specs.History.{broken_batch};
-ghost use Rattle.counter_journal.specs.EntryRanges.{IsSized, IsOfLane, IsEntryOf, IsHistory};
+ghost use Rattle.counter_journal.specs.EntryRanges.{IsSized, IsEntry, IsOfLane, IsEntryOf, IsHistory};
 ghost use Rattle.counter_journal.specs.Journal.{journal_head};
 ghost use Rattle.counter_journal.specs.HistoryReading.{PartsAnswer, is_damage};
-ghost use Rattle.counter_journal.specs.JournalReading.{parts_for, Holds, OpeningAnswer, IsReady, IsSameJournal, AddAnswer, IsBeforeCalls};
+ghost use Rattle.counter_journal.specs.JournalReading.{parts_for, Holds, OpeningAnswer, IsReady, IsSameJournal, AddAnswer, UnlessWanting, IsBeforeCalls};
 
 use crate::batches::put_entries;
 use crate::heads::head_of;
@@ -142,6 +142,7 @@ impl Journal {
         requires ready { Tells D.told disk.old → IsReady D.told disk.old self.old }
         ensures moments { Tells D.told disk.old → DiskRun D.told disk.old disk.new (λ image. Holds self.old.lane self.old.lanes self.old.entries image ⊎ Holds self.old.lane self.old.lanes (self.old.entries ++ entries.items) image) }
         ensures ready { Tells D.told disk.old → OnOk result (IsReady D.told disk.new self.new) }
+        ensures fit { UnlessWanting result (All IsEntry entries.items) }
         ensures added { OnOk result (self.new.entries ≡ self.old.entries ++ entries.items) }
         ensures length { OnOk result (self.new.length ≡ self.old.length + need_of (parts_for entries.items)) }
         ensures lane { (self.new.lane ≡ self.old.lane) × (self.new.lanes ≡ self.old.lanes) }
