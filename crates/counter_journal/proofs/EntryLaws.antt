@@ -1,18 +1,15 @@
 -- An entry that is read is the one that was written.
-use Rattle.std.proofs.Common.{◌≡◌, ℕ, zero, suc, ◌+◌, ◌^◌, ◌<◌, ◌≤◌, Bool, true, false, ◌&&◌, ltb, eqb, leb, List, [], ◌∷◌, ◌++◌, length, Option, Some, None, refl, sym, ap, subst, ◌∙◌, append_assoc, arith}
-use Rattle.std.specs.Prelude.{IsTrue, if◌then◌else◌, ◌==◌}
-use Rattle.std.proofs.lemmas.Bool.{leb-true, le-leb, eqb-true, and_from}
+use Rattle.std.proofs.Common.{◌≡◌, ℕ, Bool, true, false, eqb, leb, List, [], ◌∷◌, ◌++◌, length, Some, None, refl, sym, ap, subst, ◌∙◌}
+use Rattle.std.specs.Prelude.{if◌then◌else◌, ◌==◌}
+use Rattle.std.proofs.lemmas.Bool.{leb-true, eqb-true}
 use Rattle.std.proofs.lemmas.List.{nil_from_length, append-nil}
-use Rattle.ota_core.specs.Keyset.{Keyset}
-use Rattle.ota_core.specs.declared.jobs.JobId.{JobId}
-use Rattle.ota_core.specs.declared.keysets.KeysetFacts.{KeysetFacts}
 use Rattle.ota_core.specs.declared.entries.Entry.{Entry}
 use Rattle.ota_core.specs.declared.entries.Entry.TheVariants.{Open, Reserve, Done, Refused, Close}
-use Rattle.counter_journal.specs.EntryOctets.{five, front_octets, facts_octets, job_octets, entry_octets}
+use Rattle.counter_journal.specs.EntryOctets.{five, front_octets, job_octets, entry_octets}
 use Rattle.counter_journal.specs.EntryRanges.{LONGEST_BODY, IsFront, IsEntry}
 use Rattle.counter_journal.specs.EntryReading.{◌>>=◌, only_if, Front, front_at, counter_at, job_at, tar_at, facts_in, is_body, open_in, reserve_in, done_in, status_of, refused_in, close_in, entry_behind, entry_in}
-use Rattle.counter_journal.specs.EntriesAgain.{some_is, three_parts, five_parts, AreFacts, IsJob}
-use Rattle.counter_journal.proofs.FieldLaws.{IsBytes, bind_some, only_if_some, both_true, Takes, Takes-then, counter_takes, front_takes, facts_takes, job_takes, tar_takes}
+use Rattle.counter_journal.specs.EntriesAgain.{some_is, three_parts, five_parts}
+use Rattle.counter_journal.proofs.FieldLaws.{IsBytes, bind_some, only_if_some, both_true, counter_takes, front_takes, facts_takes, job_takes, tar_takes}
 
 -- the entry has this front, and these octets behind it
 pub record Follows (front : Front) (octets : List ℕ) (kind : ℕ) (entry : Entry) : Type 0 where

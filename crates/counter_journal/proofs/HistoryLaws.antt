@@ -1,16 +1,16 @@
 -- Laws of the reading of a history.
-use Rattle.std.proofs.Common.{◌≡◌, ◌≢◌, ℕ, zero, suc, ◌+◌, ◌%◌, ◌≤◌, ◌<◌, Bool, true, false, ◌&&◌, eqb, List, [], ◌∷◌, ◌++◌, length, map, reverse, take, drop, get_or, All, Option, Some, None, Result, Ok, Err, refl, sym, ap, subst, ◌∙◌, arith}
+use Rattle.std.proofs.Common.{◌≡◌, ℕ, ◌+◌, ◌%◌, ◌<◌, true, false, List, [], ◌∷◌, ◌++◌, length, reverse, take, drop, get_or, Option, Some, None, Result, Ok, Err, refl, sym, ap, subst, ◌∙◌, arith}
 use Rattle.std.specs.Prelude.{is_none, ◌==◌, IfOk}
 use Rattle.std.proofs.lemmas.Bool.{eqb-true, eq-eqb, and_from}
 use Rattle.std.proofs.lemmas.Option.{none-some}
-use Rattle.std.proofs.lemmas.List.{map-append, reverse-append, take_more, take-append-drop, drop_more, length-map, length-take}
+use Rattle.std.proofs.lemmas.List.{map-append, reverse-append, take_more, take-append-drop, drop_more}
 use Rattle.std.proofs.lemmas.List.Elements.{All-push}
 use Rattle.ota_core.specs.Entry.{keyset_of}
 use Rattle.ota_core.specs.History.{broken, IsLegal, IsLegalPast}
 use Rattle.ota_core.specs.declared.entries.Entry.{Entry}
 use Rattle.ota_core.specs.declared.entries.Illegal.{Illegal}
 use Rattle.counter_journal.specs.EntryOctets.{entry_octets}
-use Rattle.counter_journal.specs.EntryRanges.{IsEntry, IsEntryOf, IsHistory}
+use Rattle.counter_journal.specs.EntryRanges.{IsEntryOf, IsHistory}
 use Rattle.counter_journal.specs.EntryReading.{entry_in}
 use Rattle.counter_journal.specs.JournalReading.{parts_for, IsBad, StopsAt}
 use Rattle.counter_journal.specs.HistoryReading.{IsRead, IsNext, belongs}

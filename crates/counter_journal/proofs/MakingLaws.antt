@@ -1,5 +1,5 @@
 -- Laws of the making of a journal.
-use Rattle.std.proofs.Common.{◌≡◌, ◌⊎◌, ℕ, List, [], length, Result, Ok, Err, refl, inl, inr, sym, subst}
+use Rattle.std.proofs.Common.{◌≡◌, ℕ, List, [], length, Result, Ok, Err, refl, inl, inr, sym, subst}
 use Rattle.std.specs.Prelude.{OnOk}
 use Rattle.gate_log.specs.declared.log_errors.LogErr.{LogErr}
 use Rattle.gate_log.specs.Log.{log_octets}

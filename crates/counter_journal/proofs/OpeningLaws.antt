@@ -1,5 +1,5 @@
 -- Laws of an opening.
-use Rattle.std.proofs.Common.{◌≡◌, ◌⊎◌, ℕ, ◌+◌, Bool, true, false, List, [], length, Result, Ok, Err, refl, inl, inr, sym, ap, subst, ◌∙◌}
+use Rattle.std.proofs.Common.{◌≡◌, ◌⊎◌, ℕ, ◌+◌, true, false, List, [], length, Result, Ok, Err, refl, inl, inr, sym, ap, subst, ◌∙◌}
 use Rattle.std.proofs.lemmas.List.{length-map}
 use Rattle.std.specs.Prelude.{IfOk, IfErr}
 use Rattle.disk_model.specs.Disk.{Meaning, Tells, DiskRun, image_now}
@@ -11,7 +11,6 @@ use Rattle.gate_log.specs.Reading.Reading.{Opened, Damaged}
 use Rattle.gate_log.specs.Answers.{Refuses, UnlessFault, IsNotDamaged}
 use Rattle.gate_log.specs.Opening.{IsOpened, IsOpenLog, OpensAlike}
 use Rattle.ota_core.specs.HistoryValue.{HistoryValue}
-use Rattle.ota_core.specs.declared.entries.Entry.{Entry}
 use Rattle.counter_journal.specs.EntryOctets.{entry_octets}
 use Rattle.counter_journal.specs.Journal.{journal_head}
 use Rattle.counter_journal.specs.JournalReading.{parts_for, ReadsTo, JournalValue, JournalRefuses, IsOpenedOf, OpeningAnswer, IsReady}

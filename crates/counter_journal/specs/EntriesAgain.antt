@@ -1,6 +1,6 @@
 -- What was written of an entry is read again, so no two entries are written alike.
-use Rattle.std.proofs.Common.{◌≡◌, ℕ, ◌+◌, ◌/◌, ◌%◌, ◌^◌, ◌<◌, ◌≤◌, Bool, true, false, ltb, leb, List, [], ◌∷◌, ◌++◌, length, take, drop, Option, Some, None, refl, sym, ap, ◌∙◌, append_assoc, arith}
-use Rattle.std.specs.Prelude.{IsTrue, if◌then◌else◌, ◌==◌}
+use Rattle.std.proofs.Common.{◌≡◌, ℕ, ◌/◌, ◌%◌, ◌^◌, ◌<◌, ◌≤◌, Bool, true, false, ltb, leb, List, [], ◌∷◌, ◌++◌, length, Option, Some, refl, sym, ap, ◌∙◌, append_assoc, arith}
+use Rattle.std.specs.Prelude.{IsTrue}
 use Rattle.std.specs.Int.{w32, w64, from_be_bytes, to_be_bytes, bytes_high_first}
 use Rattle.std.proofs.lemmas.Bool.{le-ltb, le-leb, and_from}
 use Rattle.std.proofs.lemmas.List.{take_at, drop_at, length-append, append-nil}
@@ -123,9 +123,11 @@ pub record AreFacts (facts : KeysetFacts) : Type 0 where
 pub facts_again : (facts : KeysetFacts) → AreFacts facts → facts_in (facts_octets facts) ≡ Some facts
 unfolding facts_in five
 facts_again facts are =
-    rw (counter_again facts.base (manner_octets (facts.mode, facts.ciphered) ++ (key_octets facts.kic ++ key_octets facts.kid)) are.base_fits,
-    manner_again facts.mode facts.ciphered (key_octets facts.kic ++ key_octets facts.kid),
-    keys_again facts.kic facts.kid are.kic_long are.kid_long) refl
+    rw (
+      counter_again facts.base (manner_octets (facts.mode, facts.ciphered) ++ (key_octets facts.kic ++ key_octets facts.kid)) are.base_fits,
+      manner_again facts.mode facts.ciphered (key_octets facts.kic ++ key_octets facts.kid),
+      keys_again facts.kic facts.kid are.kic_long are.kid_long,
+    ) refl
 
 -- ---- jobs and applications
 

@@ -8,7 +8,6 @@ use Rattle.ota_core.specs.Entry.{keyset_of}
 use Rattle.ota_core.specs.History.{broken}
 use Rattle.ota_core.specs.HistoryValue.{HistoryValue}
 use Rattle.ota_core.specs.declared.entries.Entry.{Entry}
-use Rattle.ota_core.specs.declared.wants.Memory.{Memory}
 use Rattle.counter_journal.specs.EntryOctets.{entry_octets}
 use Rattle.counter_journal.specs.EntryRanges.{IsEntry, IsEntryOf, IsHistory}
 use Rattle.counter_journal.specs.JournalReading.{parts_for, IsBad, StopsAt, ReadsTo}

@@ -1,8 +1,8 @@
 -- Laws of what octets hold, for those who keep a journal.
-use Rattle.std.specs.Prelude.{◌≡◌, ◌≢◌, ◌⊎◌, ℕ, suc, ◌+◌, ◌<◌, ◌≤◌, List, [], ◌∷◌, ◌++◌, All, length, reverse, map, Some, None, refl}
+use Rattle.std.specs.Prelude.{◌≡◌, ℕ, suc, List, [], ◌∷◌, ◌++◌, All, reverse, None, refl}
 use Rattle.std.proofs.Common.{inl, inr, sym, ◌∙◌, ap, subst, arith, append_assoc}
 use Rattle.std.proofs.lemmas.List.{reverse-append}
-use Rattle.gate_log.specs.Reading.{Reading, parts_of}
+use Rattle.gate_log.specs.Reading.{parts_of}
 use Rattle.gate_log.specs.Reading.Reading.{Opened, Damaged}
 use Rattle.ota_core.specs.History.{broken, IsLegal, IsLegalPast}
 use Rattle.ota_core.specs.declared.entries.Entry.{Entry}
@@ -10,7 +10,7 @@ use Rattle.counter_journal.specs.EntriesAgain.{one_entry}
 use Rattle.counter_journal.specs.EntryOctets.{entry_octets}
 use Rattle.counter_journal.specs.EntryRanges.{IsEntry, IsEntryOf, IsHistory}
 use Rattle.counter_journal.specs.Journal.{journal_head}
-use Rattle.counter_journal.specs.JournalReading.{parts_for, Holds, ReadsTo, StopsAt, DamagedAt}
+use Rattle.counter_journal.specs.JournalReading.{parts_for, Holds, StopsAt, DamagedAt}
 
 same_parts : (one other : List (List ℕ)) (behind rest : List ℕ) → Opened one behind ≡ Opened other rest → one ≡ other
 same_parts one other behind rest e = cc

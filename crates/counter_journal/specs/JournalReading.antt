@@ -1,6 +1,6 @@
 -- What a journal holds: the history whose entries are the parts of its log, or why there is none.
-use Rattle.std.specs.Prelude.{◌≡◌, ◌≢◌, ◌⊎◌, ℕ, ◌+◌, ◌<◌, ◌≤◌, ◌%◌, Option, None, List, [], ◌∷◌, ◌++◌, length, map, reverse, Result, Ok, Err}
-use Rattle.disk_model.specs.Disk.{Meaning, Tells, image_now}
+use Rattle.std.specs.Prelude.{◌≡◌, ◌≢◌, ◌⊎◌, ℕ, ◌+◌, ◌<◌, ◌≤◌, None, List, [], ◌∷◌, ◌++◌, length, map, reverse, Result, Ok, Err}
+use Rattle.disk_model.specs.Disk.{Meaning}
 use Rattle.gate_log.specs.declared.log_errors.LogErr.{LogErr}
 use Rattle.gate_log.specs.declared.log_errors.LogErr.TheVariants as log_err
 use Rattle.gate_log.specs.Reading.{Reading, parts_of, OpensTo}

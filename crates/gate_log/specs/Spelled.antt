@@ -1,12 +1,11 @@
 -- A log as its octets are spelled opens to its parts.
-use Rattle.std.specs.Prelude.{◌≡◌, ◌≢◌, ℕ, ◌+◌, ◌^◌, ◌<◌, ◌≤◌, List, [], ◌∷◌, ◌++◌, length, take, drop, refl}
+use Rattle.std.specs.Prelude.{◌≡◌, ◌≢◌, ℕ, ◌^◌, ◌<◌, ◌≤◌, List, [], ◌∷◌, ◌++◌, length, take, drop, refl}
 use Rattle.std.specs.List.{flat_map}
 use Rattle.std.proofs.Common.{sym, ◌∙◌, ap, arith, append_assoc, length-append, length-drop}
 use Rattle.std.proofs.lemmas.List.{take_at, drop_at, take-append-le, drop-append-le}
 use Rattle.gate_log.specs.declared.headings.Heading.{Heading}
-use Rattle.gate_log.specs.Log.{OPEN, part_octets, batch_octets, opened_batches, log_front, IsLogOf}
-use Rattle.gate_log.specs.Reading.{Walk, behind_parts, walk_from, reading_of_walk, reading_with, parts_of, OpensTo}
-use Rattle.gate_log.specs.Reading.Reading.{Opened}
+use Rattle.gate_log.specs.Log.{OPEN, part_octets, batch_octets, opened_batches, IsLogOf}
+use Rattle.gate_log.specs.Reading.{behind_parts, walk_from, reading_of_walk, reading_with, parts_of, OpensTo}
 use Rattle.gate_log.specs.Reading.Walk.{Ended}
 use Rattle.gate_log.specs.Readings.{IsFormatted, formatted_is}
 use Rattle.gate_log.specs.Walks.{walk_closed, walk-written}

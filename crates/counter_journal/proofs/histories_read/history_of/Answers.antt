@@ -1,4 +1,4 @@
-use Rattle.std.proofs.Common.{◌∙◌, sym, ap, subst, Err, Some, None, get_or, ◌≡◌, ◌+◌}
+use Rattle.std.proofs.Common.{sym, subst, Err, Some, None, ◌+◌}
 use Rattle.counter_journal.specs.HistoryReading.{HistoryAnswer, IsNext}
 use Rattle.counter_journal.proofs.HistoryLaws.{IsReadTo, read_more, read_stops}
 use Rattle.counter_journal.proofs.histories_read.history_of.Goals as goal
