@@ -11,7 +11,7 @@ ghost use Rattle.ota_commands.specs.Exit.{HasAdded, end_of, fault_of_journal};
 use crate::faults::Fault;
 use crate::reserving::add_all;
 use crate::sessions::session_history;
-use counter_journal::{NarrowJournal, JournalErr};
+use counter_journal::{JournalErr, NarrowJournal};
 use disk_model::{DiskCalls, DiskFault};
 use ota_core::{History, Job};
 use plan_reader::Plan;

@@ -6,7 +6,7 @@ ghost use Rattle.counter_journal.specs.Causes.{JournalCause};
 ghost use Rattle.ota_commands.specs.Session.{IsShort};
 ghost use Rattle.ota_commands.specs.Exit.{HasAdded};
 
-use counter_journal::{NarrowJournal, JournalErr};
+use counter_journal::{JournalErr, NarrowJournal};
 use disk_model::DiskCalls;
 use ota_core::Entry;
 use std::alloc::Global;
