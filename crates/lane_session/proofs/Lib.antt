@@ -1,0 +1,9 @@
+pub mod FrontLaws
+pub mod LaneLaws
+pub mod OpenLaws
+pub mod OpenOrderLaws
+pub mod OpeningLaws
+pub mod OrderLaws
+pub mod PastLaws
+pub mod RowLaws
+pub mod RunLaws

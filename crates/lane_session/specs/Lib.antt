@@ -1,0 +1,12 @@
+pub mod Opening
+pub mod Opens
+pub mod Past
+pub mod Grown
+pub mod Lanes
+pub mod Order
+pub mod Rows
+pub mod Run
+pub mod Due
+pub mod Live
+pub mod LiveCounts
+pub mod OneLive

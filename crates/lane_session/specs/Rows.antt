@@ -1,0 +1,81 @@
+-- What a session may add to the history of a lane, for a plan and the rows of a list of jobs.
+use Rattle.std.specs.Prelude.{◌≡◌, ℕ, ◌<◌, nat_eq, ◌&&◌, Bool, if◌then◌else◌, Option, Some, None, option_map, find, List, length, reverse, slice_index_or, All}
+use Rattle.std.specs.Option.{option_and_then}
+use Rattle.std.specs.List.{list_any}
+use Rattle.std.specs.Str.{bytes_eq}
+use Rattle.ota_core.specs.Keyset.{Keyset, is_same_keyset}
+use Rattle.ota_core.specs.Job.{is_same_job}
+use Rattle.ota_core.specs.Entry.{is_refusal_of}
+use Rattle.ota_core.specs.History.{first_some, last_reservation}
+use Rattle.ota_core.specs.declared.cards.CardFacts.{CardFacts}
+use Rattle.ota_core.specs.declared.jobs.JobId.{JobId}
+use Rattle.ota_core.specs.declared.jobs.Job.{Job}
+use Rattle.ota_core.specs.declared.keysets.KeysetFacts.{KeysetFacts}
+use Rattle.ota_core.specs.declared.entries.Entry.{Entry}
+use Rattle.ota_core.specs.declared.entries.Entry.TheVariants.{Open, Reserve}
+use Rattle.plan_reader.specs.declared.plans.Plan.{Plan}
+
+-- the card of this number
+abbrev pub card_of : ℕ → List CardFacts → Option CardFacts
+card_of number cards = find (λ card. nat_eq card.card.0 number) cards
+
+-- the facts of the keyset with this key version number
+abbrev pub facts_in : ℕ → List (ℕ × KeysetFacts) → Option KeysetFacts
+facts_in kvn keysets = option_map (λ keyset. keyset.1) (find (λ keyset. nat_eq keyset.0 kvn) keysets)
+
+-- the facts that a plan has of a keyset
+abbrev pub facts_of : Plan → Keyset → Option KeysetFacts
+facts_of plan keyset = option_and_then (λ card. facts_in keyset.kvn card.keysets) (card_of keyset.card.0 plan.cards)
+
+-- the job is one of the list
+abbrev pub Among : Job → List Job → Type 0
+Among job jobs = (i : ℕ) × (i < length jobs) × (slice_index_or jobs i job ≡ job)
+
+-- a row is on the keyset
+pub record NamesKeyset (jobs : List Job) (keyset : Keyset) : Type 0 where
+  pub job : Job
+  pub row : Among job jobs
+  pub on : job.keyset ≡ keyset
+
+-- What the session itself may add behind a history: an Open of a keyset that a row names, with the plan's facts; and a
+-- reservation for a row, with its keyset, application and script, where the history has none for that job.
+abbrev pub IsAddedFor : Plan → List Job → List Entry → Entry → Type 0
+IsAddedFor plan jobs before (Open by keyset facts) = (by ≡ 0) × (facts_of plan keyset ≡ Some facts) × NamesKeyset jobs keyset
+IsAddedFor plan jobs before (Reserve by keyset counter id tar body) =
+    (by ≡ 0) × Among (record { id = id; keyset = keyset; tar = tar; body = body }) jobs × (last_reservation id (reverse before) ≡ None)
+IsAddedFor plan jobs before _ = ⊥
+
+-- what is reserved for a job
+pub record Reserved : Type 0 where
+  pub keyset : Keyset
+  pub counter : ℕ
+  pub tar : List ℕ
+  pub body : List ℕ
+
+-- the reservation that the entry makes for the job, whole
+abbrev pub reserved_in : JobId → Entry → Option Reserved
+reserved_in id (Reserve by keyset counter reserved tar body) =
+    if is_same_job reserved id then Some (record { keyset = keyset; counter = counter; tar = tar; body = body }) else None
+reserved_in id _ = None
+
+-- the last reservation for the job, whole, by the past of a lane
+abbrev pub last_reserved : JobId → List Entry → Option Reserved
+last_reserved id past = first_some (reserved_in id) past
+
+-- it is what the row says
+abbrev pub is_as_said : Job → Reserved → Bool
+is_as_said job reserved = is_same_keyset reserved.keyset job.keyset && bytes_eq reserved.tar job.tar && bytes_eq reserved.body job.body
+
+-- its counter, where it isn't refused and another than the row says
+abbrev pub counter_unlike : List Entry → Job → Reserved → Option ℕ
+counter_unlike past job reserved =
+    if list_any (is_refusal_of (record { keyset = reserved.keyset; counter = reserved.counter })) past then None
+    else (if is_as_said job reserved then None else Some reserved.counter)
+
+-- the counter of the job's last reservation in the history, where that isn't refused and another than the row says
+abbrev pub differs_in : List Entry → Job → Option ℕ
+differs_in history job = option_and_then (counter_unlike (reverse history) job) (last_reserved job.id (reverse history))
+
+-- no row differs from the histories of the lanes
+abbrev pub NoneDiffers : List Job → List (List Entry) → Type 0
+NoneDiffers jobs histories = All (λ job. All (λ history. differs_in history job ≡ None) histories) jobs
