@@ -7,11 +7,11 @@ use Rattle.gate_log.specs.declared.log_errors.LogErr.{LogErr}
 use Rattle.ota_core.specs.declared.entries.Entry.{Entry}
 use Rattle.ota_core.specs.declared.jobs.Job.{Job}
 use Rattle.plan_reader.specs.declared.plans.Plan.{Plan}
-use Rattle.lane_session.specs.Run.{IsPassed}
+use Rattle.lane_session.specs.Run.{IsFullFor, IsPassed}
 use Rattle.lane_session.specs.Lanes.{ArePassed}
-use Rattle.lane_session.specs.Order.{rows_of_lane, reserved_for_rows, opens_for_rows, IsInOrder, AllInOrder, IsOpenedInOrder, AllOpenedInOrder, IsFrontOfDue, AreFrontsOfDue}
+use Rattle.lane_session.specs.Order.{IsFrontOf, rows_of_lane, reserved_for_rows, opens_for_rows, IsInOrder, AllInOrder, IsOpenedInOrder, AllOpenedInOrder, IsFrontOfDue, AreFrontsOfDue}
 use Rattle.lane_session.specs.declared.lanes.Lane.{Lane}
-use Rattle.lane_session.proofs.RowLaws.{not_both}
+use Rattle.lane_session.proofs.RowLaws.{not_both, full_for}
 
 module _ (plan : Plan) (k n : ℕ) (jobs : List Job) (before mid now : Lane) (first : IsOpenedInOrder plan k n jobs [] before mid []) (second : IsInOrder k n jobs [] mid now) where
   abbrev past : List Entry
@@ -35,6 +35,7 @@ module _ (plan : Plan) (k n : ℕ) (jobs : List Job) (before mid now : Lane) (fi
     order = append_assoc first.added second.added second.rest ∙ ap (λ (r : List Entry). first.added ++ r) (second.order ∙ ap (λ (p : List Entry). reserved_for_rows p rows) past_is)
         ∙ ap (λ (o : List Entry). o ++ reservations) all_opens;
     whole = second.whole;
+    full = λ began. second.full goes_on;
   }
     where
       all_opens : first.added ≡ opens
@@ -51,7 +52,12 @@ module _ (plan : Plan) (k n : ℕ) (jobs : List Job) (before mid now : Lane) (fi
     entries = ap (λ (l : Lane). l.journal.entries) same ∙ first.entries;
     order = sym (append_assoc first.added first.rest reservations) ∙ ap (λ (o : List Entry). o ++ reservations) first.order;
     whole = λ goes_on. absurd (not_both error mid.end stopped (ap (λ (l : Lane). l.end) (sym same) ∙ goes_on));
+    full = λ began. subst (λ (l : Lane). IsFullFor (IsFrontOf (first.rest ++ reservations)) l.journal l.end) (sym same)
+        (full_for (IsFrontOf first.rest) (IsFrontOf (first.rest ++ reservations)) mid.journal mid.end longer (first.full began));
   }
+    where
+      longer : (next : List Entry) → IsFrontOf first.rest next → IsFrontOf (first.rest ++ reservations) next
+      longer next (behind, is) = (behind ++ reservations, ap (λ (r : List Entry). r ++ reservations) is ∙ append_assoc next behind reservations)
 
   front_by : (end : Option LogErr) → mid.end ≡ end → (mid.end ≢ None → now ≡ mid) → IsFrontOfDue plan k n jobs before now
   front_by None is same = both is

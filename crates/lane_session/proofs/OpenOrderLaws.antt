@@ -19,7 +19,7 @@ use Rattle.lane_session.specs.Run.{IsAddition}
 use Rattle.lane_session.specs.Opens.{has_open, is_opened, IsOpenStep, AreAllAdded}
 use Rattle.lane_session.specs.Order.{rows_of_lane, opens_for, opens_for_rows, IsOpenedInOrder}
 use Rattle.lane_session.specs.declared.lanes.Lane.{Lane}
-use Rattle.lane_session.proofs.OrderLaws.{rows_here, rows_there}
+use Rattle.lane_session.proofs.OrderLaws.{rows_here, rows_there, not_full, wants_memory, full_by}
 use Rattle.lane_session.proofs.OpenLaws.{or_false, both_false, or_left, or_right, both_some, none_reversed, some_reversed}
 
 -- the past of the lane, with what waits
@@ -75,6 +75,7 @@ module _ {D B C : Type 0} (told : Meaning D B C) (counts : D → Counts) (plan :
     entries = sym (append-nil before.journal.entries);
     order = refl;
     whole = λ goes_on. refl;
+    full = λ began. not_full (opens_for_rows plan (reverse before.journal.entries) (rows_of_lane k n jobs)) before began;
   }
 
   -- a row of another lane
@@ -85,6 +86,7 @@ module _ {D B C : Type 0} (told : Meaning D B C) (counts : D → Counts) (plan :
     entries = kept.entries;
     order = kept.order;
     whole = λ goes_on. kept.whole goes_on ∙ ap (λ (rows : List Job). waiting ++ opens_for_rows plan (past_of now waiting) rows) (rows_there k n job left differs);
+    full = kept.full;
   }
 
   -- an addition of all that waits
@@ -96,6 +98,7 @@ module _ {D B C : Type 0} (told : Meaning D B C) (counts : D → Counts) (plan :
       entries = a.err.entries ∙ kept.entries;
       order = kept.order;
       whole = λ still_on. absurd (both_some error after.end a.end_is still_on);
+      full = λ began. full_by told counts old new now after waiting kept.rest (opens_for_rows plan (past_of now waiting) (rows_of_lane k n left), kept.whole goes_on) error a;
     }
     open_order_added (Ok done) a = record {
       added = kept.added ++ waiting;
@@ -103,6 +106,7 @@ module _ {D B C : Type 0} (told : Meaning D B C) (counts : D → Counts) (plan :
       entries = a.added ∙ ap (λ (e : List Entry). e ++ waiting) kept.entries ∙ append_assoc before.journal.entries kept.added waiting;
       order = append_assoc kept.added waiting later ∙ ap (λ (r : List Entry). kept.added ++ r) (sym (kept.whole goes_on)) ∙ kept.order;
       whole = λ still_on. ap (λ (past : List Entry). opens_for_rows plan past (rows_of_lane k n left)) (sym past_is);
+      full = λ began. not_full later after a.end_is;
     }
       where
         later : List Entry
@@ -123,6 +127,7 @@ module _ {D B C : Type 0} (told : Meaning D B C) (counts : D → Counts) (plan :
         ∙ ap (λ (r : List Entry). waiting ++ r) (opens_after plan (past_of now waiting) job left k n (entry ∷ []) of (one_due plan (past_of now waiting) job.keyset facts (unopened_there now waiting job.keyset unopened) facts_is))
         ∙ sym (append_assoc waiting (entry ∷ []) (opens_for_rows plan (entry ∷ past_of now waiting) (rows_of_lane k n left)))
         ∙ ap (λ (w : List Entry). (waiting ++ entry ∷ []) ++ opens_for_rows plan (w ++ reverse now.journal.entries) (rows_of_lane k n left)) (sym (reverse-append waiting (entry ∷ [])));
+    full = kept.full;
   }
     where
       entry : Entry
@@ -139,6 +144,7 @@ module _ {D B C : Type 0} (told : Meaning D B C) (counts : D → Counts) (plan :
         order = kept.order;
         whole = λ goes_on. kept.whole goes_on
             ∙ ap (λ (r : List Entry). waiting ++ r) (opens_after plan (past_of now waiting) job left k n [] of (none_due plan (past_of now waiting) job.keyset (by (same.3 goes_on))));
+        full = kept.full;
       }))
     where
       by : (is_opened (reverse now.journal.entries) waiting job.keyset ≡ true) ⊎ (facts_of plan job.keyset ≡ None) → (has_open job.keyset (past_of now waiting) ≡ true) ⊎ (facts_of plan job.keyset ≡ None)
@@ -150,6 +156,7 @@ module _ {D B C : Type 0} (told : Meaning D B C) (counts : D → Counts) (plan :
     entries = ap (λ j. j.entries) wants.2 ∙ kept.entries;
     order = kept.order;
     whole = λ goes_on. absurd (both_some log_err.Memory after.end wants.3 goes_on);
+    full = λ began. wants_memory kept.rest after wants.3;
   }
   open_order_row left now after old new waiting still job of kept (inr (inr (goes_on, unopened, facts, facts_is, inl same))) =
       subst (λ (l : Lane). IsOpenedInOrder plan k n jobs left before l still) (sym same.1) (subst (IsOpenedInOrder plan k n jobs left before now) (sym same.2)
@@ -166,6 +173,7 @@ module _ {D B C : Type 0} (told : Meaning D B C) (counts : D → Counts) (plan :
     entries = kept.entries;
     order = kept.order;
     whole = λ goes_on. kept.whole goes_on ∙ append-nil waiting ∙ same.2 goes_on;
+    full = kept.full;
   })
   open_order_done now after old new waiting kept (inr (goes_on, some_wait, outcome, a)) = open_order_added [] now after old new waiting kept goes_on outcome a
 

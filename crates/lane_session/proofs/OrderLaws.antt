@@ -1,17 +1,18 @@
 -- Laws of the order in which rows are reserved.
-use Rattle.std.proofs.Common.{◌≡◌, ◌≢◌, ℕ, suc, ◌+◌, ◌%◌, ◌<◌, Bool, true, false, eqb, if◌then◌else◌, List, [], ◌∷◌, ◌++◌, length, reverse, get_or, set, drop, Some, Ok, Err, refl, inl, inr, sym, ap, subst, ◌∙◌, append_assoc, arith}
+use Rattle.std.proofs.Common.{◌≡◌, ◌≢◌, ℕ, suc, ◌+◌, ◌%◌, ◌<◌, Bool, true, false, eqb, if◌then◌else◌, List, [], ◌∷◌, ◌++◌, length, reverse, get_or, set, drop, Some, Ok, Err, refl, inl, inr, sym, ap, subst, ◌∙◌, append_assoc, arith, None}
 use Rattle.std.proofs.Math.Seq.{drop-cons}
 use Rattle.std.proofs.lemmas.Bool.{eq-eqb, eqb-true, eqb-false}
 use Rattle.std.proofs.lemmas.List.{get_or-set_same, get_or-set_other, get_or_default, append-nil}
 use Rattle.disk_model.specs.Counts.{Counts}
 use Rattle.disk_model.specs.Disk.{Meaning}
+use Rattle.gate_log.specs.declared.log_errors.LogErr.{LogErr}
 use Rattle.gate_log.specs.declared.log_errors.LogErr.TheVariants as log_err
 use Rattle.ota_core.specs.History.{next_counter}
 use Rattle.ota_core.specs.declared.jobs.Job.{Job}
 use Rattle.ota_core.specs.declared.entries.Entry.{Entry}
 use Rattle.lane_session.specs.Due.{is_served, due_counter, reservation_for}
-use Rattle.lane_session.specs.Run.{IsRowStep}
-use Rattle.lane_session.specs.Order.{rows_of_lane, reserved_for, reserved_for_rows, IsInOrder, AllInOrder}
+use Rattle.lane_session.specs.Run.{IsFullFor, IsRowStep, IsAddition}
+use Rattle.lane_session.specs.Order.{rows_of_lane, reserved_for, reserved_for_rows, IsFrontOf, IsInOrder, AllInOrder}
 use Rattle.lane_session.specs.declared.lanes.Lane.{Lane}
 use Rattle.lane_session.proofs.RowLaws.{none_if, entries_after, not_both}
 
@@ -54,7 +55,38 @@ rows_there k n job rows differs = by (eqb (job.keyset.card.0 % n) k) refl
     by true is = absurd (differs (eqb-true (job.keyset.card.0 % n) k is))
     by false is = rows_by k n job rows false is
 
+-- ---- a lane that is full
+
+-- a lane that goes on isn't full
+pub not_full : (rest : List Entry) (now : Lane) → now.end ≡ None → IsFullFor (IsFrontOf rest) now.journal now.end
+not_full rest now goes_on = subst (IsFullFor (IsFrontOf rest) now.journal) (sym goes_on) tt
+
+-- want of memory isn't want of room
+pub wants_memory : (rest : List Entry) (now : Lane) → now.end ≡ Some log_err.Memory → IsFullFor (IsFrontOf rest) now.journal now.end
+wants_memory rest now end_is = subst (IsFullFor (IsFrontOf rest) now.journal) (sym end_is) tt
+
+-- an addition that had no room was of the next batch
+pub full_by : {D B C : Type 0} (told : Meaning D B C) (counts : D → Counts) (old new : D) (now after : Lane) (more rest : List Entry) → IsFrontOf rest more → (error : LogErr) → IsAddition told counts old new now after more (Err error)
+    → IsFullFor (IsFrontOf rest) after.journal after.end
+full_by told counts old new now after more rest front error a = subst (IsFullFor (IsFrontOf rest) after.journal) (sym a.end_is) (by error a)
+  where
+    by : (error : LogErr) → IsAddition told counts old new now after more (Err error) → IsFullFor (IsFrontOf rest) after.journal (Some error)
+    by log_err.Memory a = tt
+    by (log_err.DiskFault fault) a = tt
+    by log_err.Unformatted a = tt
+    by log_err.NotALog a = tt
+    by (log_err.OtherHead head) a = tt
+    by (log_err.Damaged number) a = tt
+    by (log_err.Full size need) a = (a.answer.1 ∙ sym a.err.length, omega (arith, a.answer.0, a.answer.1, a.answer.2), more, front, a.answer.2)
+
 module _ {D B C : Type 0} (told : Meaning D B C) (counts : D → Counts) where
+  -- what is left to add begins with what is due to the row
+  rest_at : (k n : ℕ) (jobs left : List Job) (before now : Lane) (job : Job) (counter : ℕ) → job.keyset.card.0 % n ≡ k → (kept : IsInOrder k n jobs (job ∷ left) before now) → now.end ≡ None
+      → due_counter (reverse now.journal.entries) job ≡ Some counter
+      → kept.rest ≡ reservation_for job counter ∷ reserved_for_rows (reservation_for job counter ∷ reverse now.journal.entries) (rows_of_lane k n left)
+  rest_at k n jobs left before now job counter of kept goes_on due =
+      kept.whole goes_on ∙ ap (reserved_for_rows (reverse now.journal.entries)) (rows_here k n job left of) ∙ rows_after_due (reverse now.journal.entries) job counter (rows_of_lane k n left) due
+
   -- a row of the lane
   row_in_order : (k n : ℕ) (jobs left : List Job) (before now after : Lane) (old new : D) (job : Job) → job.keyset.card.0 % n ≡ k → IsInOrder k n jobs (job ∷ left) before now
       → IsRowStep told counts old new now after job → IsInOrder k n jobs left before after
@@ -64,6 +96,7 @@ module _ {D B C : Type 0} (told : Meaning D B C) (counts : D → Counts) where
     entries = kept.entries;
     order = kept.order;
     whole = λ goes_on. kept.whole goes_on ∙ ap (reserved_for_rows (reverse now.journal.entries)) (rows_here k n job left of) ∙ rows_after_served (reverse now.journal.entries) job (rows_of_lane k n left) (same.2 goes_on);
+    full = kept.full;
   })
   row_in_order k n jobs left before now after old new job of kept (inr (inl wants)) = record {
     added = kept.added;
@@ -71,6 +104,7 @@ module _ {D B C : Type 0} (told : Meaning D B C) (counts : D → Counts) where
     entries = ap (λ j. j.entries) wants.2 ∙ kept.entries;
     order = kept.order;
     whole = λ goes_on. absurd (not_both log_err.Memory after.end wants.3 goes_on);
+    full = λ began. wants_memory kept.rest after wants.3;
   }
   row_in_order k n jobs left before now after old new job of kept (inr (inr (goes_on, counter, due, Err error, a))) = record {
     added = kept.added;
@@ -78,6 +112,8 @@ module _ {D B C : Type 0} (told : Meaning D B C) (counts : D → Counts) where
     entries = a.err.entries ∙ kept.entries;
     order = kept.order;
     whole = λ open_end. absurd (not_both error after.end a.end_is open_end);
+    full = λ began. full_by told counts old new now after (reservation_for job counter ∷ []) kept.rest
+        (reserved_for_rows (reservation_for job counter ∷ reverse now.journal.entries) (rows_of_lane k n left), rest_at k n jobs left before now job counter of kept goes_on due) error a;
   }
   row_in_order k n jobs left before now after old new job of kept (inr (inr (goes_on, counter, due, Ok done, a))) = record {
     added = kept.added ++ reservation ∷ [];
@@ -85,6 +121,7 @@ module _ {D B C : Type 0} (told : Meaning D B C) (counts : D → Counts) where
     entries = a.added ∙ ap (λ (e : List Entry). e ++ reservation ∷ []) kept.entries ∙ append_assoc before.journal.entries kept.added (reservation ∷ []);
     order = append_assoc kept.added (reservation ∷ []) later ∙ ap (λ (r : List Entry). kept.added ++ r) (sym rest_is) ∙ kept.order;
     whole = λ open_end. ap (λ (past : List Entry). reserved_for_rows past (rows_of_lane k n left)) (sym (entries_after now after (reservation ∷ []) a.added reservation refl));
+    full = λ began. not_full later after a.end_is;
   }
     where
       reservation : Entry
@@ -97,7 +134,7 @@ module _ {D B C : Type 0} (told : Meaning D B C) (counts : D → Counts) where
       later = reserved_for_rows (reservation ∷ past) (rows_of_lane k n left)
 
       rest_is : kept.rest ≡ reservation ∷ later
-      rest_is = kept.whole goes_on ∙ ap (reserved_for_rows past) (rows_here k n job left of) ∙ rows_after_due past job counter (rows_of_lane k n left) due
+      rest_is = rest_at k n jobs left before now job counter of kept goes_on due
 
   -- a row of another lane
   other_in_order : (k n : ℕ) (jobs left : List Job) (before now : Lane) (job : Job) → job.keyset.card.0 % n ≢ k → IsInOrder k n jobs (job ∷ left) before now → IsInOrder k n jobs left before now
@@ -107,6 +144,7 @@ module _ {D B C : Type 0} (told : Meaning D B C) (counts : D → Counts) where
     entries = kept.entries;
     order = kept.order;
     whole = λ goes_on. kept.whole goes_on ∙ ap (reserved_for_rows (reverse now.journal.entries)) (rows_there k n job left differs);
+    full = kept.full;
   }
 
   module _ (jobs left : List Job) (befores lanes : List Lane) (old new : D) (at : ℕ) (after : Lane) (job : Job) (l : Lane)
@@ -134,4 +172,5 @@ order_start jobs lanes k before now below = subst (IsInOrder k (length lanes) jo
   entries = sym (append-nil (get_or lanes k before).journal.entries);
   order = refl;
   whole = λ goes_on. refl;
+  full = λ began. not_full (reserved_for_rows (reverse (get_or lanes k before).journal.entries) (rows_of_lane k (length lanes) jobs)) (get_or lanes k before) began;
 })

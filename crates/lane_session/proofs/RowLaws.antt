@@ -191,7 +191,7 @@ shorter_for plan jobs before added (Done by keyset counter answer) for_row = abs
 shorter_for plan jobs before added (Refused by keyset counter status) for_row = absurd for_row
 shorter_for plan jobs before added (Close by keyset) for_row = absurd for_row
 
-full_for : (P Q : List Entry → Type 0) (journal : JournalValue) (end : Option LogErr) → ((next : List Entry) → P next → Q next) → IsFullFor P journal end → IsFullFor Q journal end
+pub full_for : (P Q : List Entry → Type 0) (journal : JournalValue) (end : Option LogErr) → ((next : List Entry) → P next → Q next) → IsFullFor P journal end → IsFullFor Q journal end
 full_for P Q journal None then_q full = full
 full_for P Q journal (Some log_err.Memory) then_q full = full
 full_for P Q journal (Some (log_err.DiskFault fault)) then_q full = full

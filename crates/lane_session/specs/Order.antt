@@ -9,6 +9,7 @@ use Rattle.ota_core.specs.declared.entries.Entry.{Entry}
 use Rattle.plan_reader.specs.declared.plans.Plan.{Plan}
 use Rattle.lane_session.specs.Rows.{facts_of}
 use Rattle.lane_session.specs.Due.{is_served, reservation_for, open_for}
+use Rattle.lane_session.specs.Run.{IsFullFor}
 use Rattle.lane_session.specs.Opens.{has_open}
 use Rattle.lane_session.specs.declared.lanes.Lane.{Lane}
 
@@ -25,14 +26,19 @@ abbrev pub reserved_for_rows : List Entry → List Job → List Entry
 reserved_for_rows past [] = []
 reserved_for_rows past (job ∷ jobs) = reserved_for past job ++ reserved_for_rows (reserved_for past job ++ past) jobs
 
+-- the next batch is the front of what is left to add
+abbrev pub IsFrontOf : List Entry → List Entry → Type 0
+IsFrontOf rest next = (behind : List Entry) × (rest ≡ next ++ behind)
+
 -- What was added to a lane is the front of what is due to its rows in file order; where the lane goes on, all up to the
--- rows that are left.
+-- rows that are left. Where it is full, it has no room for the next batch.
 pub record IsInOrder (lane lanes : ℕ) (jobs left : List Job) (before now : Lane) : Type 0 where
   pub added : List Entry
   pub rest : List Entry
   pub entries : now.journal.entries ≡ before.journal.entries ++ added
   pub order : added ++ rest ≡ reserved_for_rows (reverse before.journal.entries) (rows_of_lane lane lanes jobs)
   pub whole : now.end ≡ None → rest ≡ reserved_for_rows (reverse now.journal.entries) (rows_of_lane lane lanes left)
+  pub full : before.end ≡ None → IsFullFor (IsFrontOf rest) now.journal now.end
 
 -- so it is on each lane
 abbrev pub AllInOrder : List Job → List Job → List Lane → List Lane → Type 0
@@ -54,13 +60,14 @@ opens_for_rows plan past [] = []
 opens_for_rows plan past (job ∷ jobs) = opens_for plan past job.keyset ++ opens_for_rows plan (opens_for plan past job.keyset ++ past) jobs
 
 -- What was opened on a lane is the front of what is due to its rows in file order; where the lane goes on, all but the
--- Opens that wait and those of the rows that are left.
+-- Opens that wait and those of the rows that are left. Where it is full, it has no room for the next batch.
 pub record IsOpenedInOrder (plan : Plan) (lane lanes : ℕ) (jobs left : List Job) (before now : Lane) (waiting : List Entry) : Type 0 where
   pub added : List Entry
   pub rest : List Entry
   pub entries : now.journal.entries ≡ before.journal.entries ++ added
   pub order : added ++ rest ≡ opens_for_rows plan (reverse before.journal.entries) (rows_of_lane lane lanes jobs)
   pub whole : now.end ≡ None → rest ≡ waiting ++ opens_for_rows plan (reverse waiting ++ reverse now.journal.entries) (rows_of_lane lane lanes left)
+  pub full : before.end ≡ None → IsFullFor (IsFrontOf rest) now.journal now.end
 
 -- so it is on each lane
 abbrev pub AllOpenedInOrder : Plan → List Job → List Lane → List Lane → Type 0
@@ -71,13 +78,15 @@ AllOpenedInOrder plan jobs befores lanes = (k : ℕ) (before now : Lane) → k <
 abbrev pub due_to_rows : Plan → List Entry → List Job → List Entry
 due_to_rows plan past rows = opens_for_rows plan past rows ++ reserved_for_rows (reverse (opens_for_rows plan past rows) ++ past) rows
 
--- What was added to a lane is the front of what is due to its rows; all of it, where the lane goes on.
+-- What was added to a lane is the front of what is due to its rows; all of it, where the lane goes on. Where it is full,
+-- it has no room for the next batch.
 pub record IsFrontOfDue (plan : Plan) (lane lanes : ℕ) (jobs : List Job) (before now : Lane) : Type 0 where
   pub added : List Entry
   pub rest : List Entry
   pub entries : now.journal.entries ≡ before.journal.entries ++ added
   pub order : added ++ rest ≡ due_to_rows plan (reverse before.journal.entries) (rows_of_lane lane lanes jobs)
   pub whole : now.end ≡ None → rest ≡ []
+  pub full : before.end ≡ None → IsFullFor (IsFrontOf rest) now.journal now.end
 
 -- so it is on each lane
 abbrev pub AreFrontsOfDue : Plan → List Job → List Lane → List Lane → Type 0
