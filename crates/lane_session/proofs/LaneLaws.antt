@@ -1,5 +1,5 @@
 -- Laws of all lanes, of which a row changes one.
-use Rattle.std.proofs.Common.{◌≡◌, ◌≢◌, ℕ, ◌+◌, ◌%◌, ◌≤◌, ◌<◌, Bool, true, false, eqb, List, [], length, reverse, get_or, set, Option, Some, None, refl, inl, inr, sym, ap, subst, ◌∙◌, arith}
+use Rattle.std.proofs.Common.{◌≡◌, ◌≢◌, ℕ, ◌+◌, ◌%◌, ◌≤◌, ◌<◌, Bool, true, false, eqb, List, [], ◌∷◌, length, reverse, get_or, set, Option, Some, None, refl, inl, inr, sym, ap, subst, ◌∙◌, arith}
 use Rattle.std.proofs.lemmas.Bool.{eqb-true, eqb-false, cases_lt}
 use Rattle.std.proofs.lemmas.List.{get_or-set_same, get_or-set_other, get_or_default, length-set}
 use Rattle.disk_model.specs.Counts.{Counts}
@@ -15,6 +15,11 @@ use Rattle.lane_session.specs.Lanes.{AreReady, ArePassed, AllServed}
 use Rattle.lane_session.specs.declared.lanes.Lane.{Lane}
 use Rattle.lane_session.proofs.RunLaws.{run_start}
 use Rattle.lane_session.proofs.RowLaws.{row_run, row_served, stays_served, run_joined}
+
+-- an element of a list that has one
+pub first_of : {A : Type 0} (xs : List A) → 0 < length xs → A
+first_of [] none = absurd (omega arith)
+first_of (x ∷ xs) some = x
 
 is_some_end : (error : LogErr) (end : Option LogErr) → end ≡ Some error → end ≢ None
 is_some_end error end is none = some_none (sym is ∙ none)

@@ -1,7 +1,7 @@
 -- Laws of Opens that wait.
-use Rattle.std.proofs.Common.{◌≡◌, ◌≢◌, ℕ, ◌+◌, ◌%◌, ◌≤◌, ◌<◌, get_or, Bool, true, false, ◌||◌, List, [], ◌∷◌, ◌++◌, length, reverse, All, Option, Some, None, Result, Ok, Err, refl, inl, inr, sym, ap, subst, ◌∙◌, arith}
+use Rattle.std.proofs.Common.{◌≡◌, ◌≢◌, ℕ, ◌+◌, ◌%◌, ◌≤◌, ◌<◌, get_or, Bool, true, false, ◌||◌, List, [], ◌∷◌, ◌++◌, length, reverse, All, Some, None, Result, Ok, Err, refl, inl, inr, sym, ap, subst, ◌∙◌, arith}
 use Rattle.std.specs.List.{list_any}
-use Rattle.std.proofs.lemmas.Bool.{cases_lt}
+use Rattle.std.proofs.lemmas.Bool.{cases_lt, or_from, or_parts}
 use Rattle.std.proofs.lemmas.List.{reverse-append, get_or_default, length-append}
 use Rattle.std.proofs.lemmas.List.Folds.{list_any-append}
 use Rattle.disk_model.specs.Counts.{Counts}
@@ -26,30 +26,22 @@ use Rattle.lane_session.specs.Lanes.{ArePassed}
 use Rattle.lane_session.specs.declared.lanes.Lane.{Lane}
 use Rattle.lane_session.proofs.LaneLaws.{start_of, passed_ready}
 use Rattle.lane_session.proofs.RunLaws.{broken_batch-append, run_more}
-use Rattle.lane_session.proofs.RowLaws.{run_wanting}
-
-pub or_false : (a b : Bool) → (a || b) ≡ false → (a ≡ false) × (b ≡ false)
-or_false true b e = absurd cc
-or_false false b e = (refl, e)
-
-pub both_false : (a b : Bool) → a ≡ false → b ≡ false → (a || b) ≡ false
-both_false true b p q = p
-both_false false b p q = q
+use Rattle.lane_session.proofs.RowLaws.{run_wanting, not_both}
 
 -- an element that isn't in a list isn't in it backwards
 pub none_reversed : (p : Entry → Bool) (xs : List Entry) → list_any p xs ≡ false → list_any p (reverse xs) ≡ false
 none_reversed p [] none = refl
 none_reversed p (x ∷ xs) none =
-    let parts = or_false (p x) (list_any p xs) none in
+    let parts = or_parts (p x) (list_any p xs) none in
     ap (list_any p) (reverse-append (x ∷ []) xs) ∙ list_any-append p (reverse xs) (x ∷ [])
-    ∙ both_false (list_any p (reverse xs)) (list_any p (x ∷ [])) (none_reversed p xs parts.1) (both_false (p x) false parts.0 refl)
+    ∙ or_from (list_any p (reverse xs)) (list_any p (x ∷ [])) (none_reversed p xs parts.1) (or_from (p x) false parts.0 refl)
 
 -- an Open that is due is legal behind those that wait
 pub waiting_more : (past waiting : List Entry) (keyset : Keyset) (facts : KeysetFacts) → broken_batch past waiting ≡ None → is_opened past waiting keyset ≡ false → broken_batch past (waiting ++ open_for keyset facts ∷ []) ≡ None
 waiting_more past waiting keyset facts legal unopened =
-    let parts = or_false (has_open keyset past) (has_open keyset waiting) unopened in
+    let parts = or_parts (has_open keyset past) (has_open keyset waiting) unopened in
     let none : list_any (is_open_of keyset) (reverse waiting ++ past) ≡ false =
-    list_any-append (is_open_of keyset) (reverse waiting) past ∙ both_false (list_any (is_open_of keyset) (reverse waiting)) (list_any (is_open_of keyset) past) (none_reversed (is_open_of keyset) waiting parts.1) parts.0 in
+    list_any-append (is_open_of keyset) (reverse waiting) past ∙ or_from (list_any (is_open_of keyset) (reverse waiting)) (list_any (is_open_of keyset) past) (none_reversed (is_open_of keyset) waiting parts.1) parts.0 in
     broken_batch-append past waiting (open_for keyset facts ∷ []) legal (rw none refl)
 
 -- ---- a pass over the rows
@@ -91,9 +83,6 @@ opening_other told counts plan jobs number lanes start before site now waiting c
     same i below late = omega arith
 
 -- ---- one row of the lane
-
-pub both_some : (error : LogErr) (end : Option LogErr) → end ≡ Some error → end ≡ None → ⊥
-both_some error end some none = cc
 
 pub or_right : (a b : Bool) → b ≡ true → (a || b) ≡ true
 or_right true b e = refl
@@ -212,7 +201,7 @@ module _ {D B C : Type 0} (told : Meaning D B C) (counts : D → Counts) (plan :
 
           by_outcome : (outcome : Result (Unit {0}) LogErr) → IsAddition told counts site new now after (waiting ++ opening_entry ∷ []) outcome → after.end ≡ None
               → (i : ℕ) (job : Job) → i < count + 1 → i < length jobs → (get_or jobs i job).keyset.card.0 % lanes ≡ number → IsOpenOr plan after [] (get_or jobs i job).keyset
-          by_outcome (Err error) a still_on = absurd (both_some error after.end a.end_is still_on)
+          by_outcome (Err error) a still_on = absurd (not_both error after.end a.end_is still_on)
           by_outcome (Ok done) a still_on =
               rows_opened after [] keeps (inl (opened_added now.journal.entries (waiting ++ opening_entry ∷ []) after.journal.entries row.keyset a.added
               (or_right (has_open row.keyset (reverse now.journal.entries)) (has_open row.keyset (waiting ++ opening_entry ∷ [])) waits_open))) goes_on
@@ -239,9 +228,9 @@ module _ {D B C : Type 0} (told : Meaning D B C) (counts : D → Counts) (plan :
         subst (λ (d : D). IsRun told counts plan jobs number lanes start before.journal.entries d after) (sym wants.0)
             (run_wanting told counts plan jobs number lanes start before.journal.entries site now after (running wants.1).1 wants.1 wants.2 wants.3),
       );
-      are_waiting = λ still_on. absurd (both_some log_err.Memory after.end wants.3 still_on);
-      for_rows = λ still_on. absurd (both_some log_err.Memory after.end wants.3 still_on);
-      opened = λ still_on i job below in_jobs of. absurd (both_some log_err.Memory after.end wants.3 still_on);
+      are_waiting = λ still_on. absurd (not_both log_err.Memory after.end wants.3 still_on);
+      for_rows = λ still_on. absurd (not_both log_err.Memory after.end wants.3 still_on);
+      opened = λ still_on i job below in_jobs of. absurd (not_both log_err.Memory after.end wants.3 still_on);
     }
     opening_row (inr (inr (goes_on, unopened, facts, facts_is, inl same))) =
         subst (λ (d : D). IsOpening told counts plan jobs number lanes start before d after still (count + 1)) (sym same.0)
@@ -280,7 +269,7 @@ module _ {D B C : Type 0} (told : Meaning D B C) (counts : D → Counts) (plan :
       )
     where
       by_outcome : (outcome : Result (Unit {0}) LogErr) → IsAddition told counts site new now after waiting outcome → AreOpened plan jobs number lanes count after []
-      by_outcome (Err error) a = λ still_on. absurd (both_some error after.end a.end_is still_on)
+      by_outcome (Err error) a = λ still_on. absurd (not_both error after.end a.end_is still_on)
       by_outcome (Ok done) a = λ still_on i job below within of. moved (get_or jobs i job).keyset (opening.opened goes_on i job below within of)
         where
           moved : (keyset : Keyset) → IsOpenOr plan now waiting keyset → IsOpenOr plan after [] keyset

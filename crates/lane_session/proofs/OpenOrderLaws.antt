@@ -1,6 +1,6 @@
 -- Laws of the order in which keysets are opened.
 use Rattle.std.proofs.Common.{◌≡◌, ◌≢◌, ◌⊎◌, ℕ, ◌+◌, ◌%◌, ◌<◌, Bool, true, false, eqb, ◌||◌, List, [], ◌∷◌, ◌++◌, length, reverse, get_or, set, Some, None, Result, Ok, Err, refl, inl, inr, sym, ap, subst, ◌∙◌, append_assoc, arith}
-use Rattle.std.proofs.lemmas.Bool.{eqb-true, eqb-false, cases_lt}
+use Rattle.std.proofs.lemmas.Bool.{eqb-true, eqb-false, cases_lt, or_from, or_parts}
 use Rattle.std.proofs.lemmas.List.{append-nil, reverse-append, get_or-set_same, get_or-set_other, get_or_default}
 use Rattle.std.proofs.lemmas.List.Folds.{list_any-append}
 use Rattle.disk_model.specs.Counts.{Counts}
@@ -20,7 +20,8 @@ use Rattle.lane_session.specs.Opens.{has_open, is_opened, IsOpenStep, AreAllAdde
 use Rattle.lane_session.specs.Order.{rows_of_lane, opens_for, opens_for_rows, IsOpenedInOrder}
 use Rattle.lane_session.specs.declared.lanes.Lane.{Lane}
 use Rattle.lane_session.proofs.OrderLaws.{rows_here, rows_there, not_full, wants_memory, full_by}
-use Rattle.lane_session.proofs.OpenLaws.{or_false, both_false, or_left, or_right, both_some, none_reversed, some_reversed}
+use Rattle.lane_session.proofs.OpenLaws.{or_left, or_right, none_reversed, some_reversed}
+use Rattle.lane_session.proofs.RowLaws.{not_both}
 
 -- the past of the lane, with what waits
 abbrev pub past_of : Lane → List Entry → List Entry
@@ -44,9 +45,9 @@ opened_there now waiting keyset is = list_any-append (is_open_of keyset) (revers
 
 unopened_there : (now : Lane) (waiting : List Entry) (keyset : Keyset) → is_opened (reverse now.journal.entries) waiting keyset ≡ false → has_open keyset (past_of now waiting) ≡ false
 unopened_there now waiting keyset is =
-    let parts = or_false (has_open keyset (reverse now.journal.entries)) (has_open keyset waiting) is in
+    let parts = or_parts (has_open keyset (reverse now.journal.entries)) (has_open keyset waiting) is in
     list_any-append (is_open_of keyset) (reverse waiting) (reverse now.journal.entries)
-    ∙ both_false (has_open keyset (reverse waiting)) (has_open keyset (reverse now.journal.entries)) (none_reversed (is_open_of keyset) waiting parts.1) parts.0
+    ∙ or_from (has_open keyset (reverse waiting)) (has_open keyset (reverse now.journal.entries)) (none_reversed (is_open_of keyset) waiting parts.1) parts.0
 
 -- nothing is due to a keyset that is opened, or that the plan has not
 none_due : (plan : Plan) (past : List Entry) (keyset : Keyset) → (has_open keyset past ≡ true) ⊎ (facts_of plan keyset ≡ None) → opens_for plan past keyset ≡ []
@@ -97,7 +98,7 @@ module _ {D B C : Type 0} (told : Meaning D B C) (counts : D → Counts) (plan :
       rest = kept.rest;
       entries = a.err.entries ∙ kept.entries;
       order = kept.order;
-      whole = λ still_on. absurd (both_some error after.end a.end_is still_on);
+      whole = λ still_on. absurd (not_both error after.end a.end_is still_on);
       full = λ began. full_by told counts old new now after waiting kept.rest (opens_for_rows plan (past_of now waiting) (rows_of_lane k n left), kept.whole goes_on) error a;
     }
     open_order_added (Ok done) a = record {
@@ -155,7 +156,7 @@ module _ {D B C : Type 0} (told : Meaning D B C) (counts : D → Counts) (plan :
     rest = kept.rest;
     entries = ap (λ j. j.entries) wants.2 ∙ kept.entries;
     order = kept.order;
-    whole = λ goes_on. absurd (both_some log_err.Memory after.end wants.3 goes_on);
+    whole = λ goes_on. absurd (not_both log_err.Memory after.end wants.3 goes_on);
     full = λ began. wants_memory kept.rest after wants.3;
   }
   open_order_row left now after old new waiting still job of kept (inr (inr (goes_on, unopened, facts, facts_is, inl same))) =

@@ -14,10 +14,7 @@ use Rattle.lane_session.specs.Run.{IsLaneReady}
 use Rattle.lane_session.specs.Lanes.{AreReady}
 use Rattle.lane_session.specs.Opening.{IsLooked, IsOpenedSite, AreOpenedBelow, IsRefusedAt, IsWanting}
 use Rattle.lane_session.specs.declared.lanes.Lane.{Lane}
-
-some_lane : (lanes : List Lane) (k : ℕ) → k < length lanes → Lane
-some_lane [] k below = absurd (omega (arith, below))
-some_lane (lane ∷ lanes) k below = lane
+use Rattle.lane_session.proofs.LaneLaws.{first_of}
 
 module _ {D B C : Type 0} (told : Meaning D B C) (counts : D → Counts) where
   -- a site that no call was made on
@@ -61,7 +58,7 @@ module _ {D B C : Type 0} (told : Meaning D B C) (counts : D → Counts) where
           (opened.each k old site lane below)
 
       lane_below : (k : ℕ) → k < number → Lane
-      lane_below k below = some_lane lanes k (omega (arith, below, opened.count))
+      lane_below k below = first_of lanes (omega (arith, below, opened.count))
 
       site_above : (k : ℕ) (site : D) → number < k → get_or (set news number new) k site ≡ get_or olds k site
       site_above k site above = get_or-set_other news number k new site (above_differs k above) ∙ opened.untouched k site (omega (arith, above))

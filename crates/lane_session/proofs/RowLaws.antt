@@ -2,7 +2,7 @@
 use Rattle.std.proofs.Common.{◌≡◌, ℕ, ◌%◌, Bool, true, false, ◌||◌, not, All, List, [], ◌∷◌, ◌++◌, reverse, get_or, Option, Some, None, Ok, Err, refl, inl, inr, sym, ap, subst, ◌∙◌, append_assoc, arith}
 use Rattle.std.specs.Prelude.{is_some, nat_le, if◌then◌else◌}
 use Rattle.std.specs.Option.{option_or}
-use Rattle.std.proofs.lemmas.Bool.{eq-eqb}
+use Rattle.std.proofs.lemmas.Bool.{eq-eqb, or_parts}
 use Rattle.std.proofs.lemmas.List.{reverse-append}
 use Rattle.std.proofs.lemmas.List.Elements.{All-push, All-append}
 use Rattle.disk_model.specs.Counts.{Counts}
@@ -35,10 +35,6 @@ pub none_if : {A : Type 0} (holds : Bool) (a b : A) → (if holds then None else
 none_if true a b e = absurd cc
 none_if false a b e = (refl, cc)
 
-or_false : (a b : Bool) → (a || b) ≡ false → (a ≡ false) × (b ≡ false)
-or_false true b e = absurd cc
-or_false false b e = (refl, e)
-
 is_none_by : {A : Type 0} (o : Option A) → is_some o ≡ false → o ≡ None
 is_none_by None e = refl
 is_none_by (Some x) e = absurd cc
@@ -46,7 +42,7 @@ is_none_by (Some x) e = absurd cc
 -- a job to which a counter is due has no reservation
 pub due_unreserved : (past : List Entry) (job : Job) (counter : ℕ) → due_counter past job ≡ Some counter → last_reservation job.id past ≡ None
 due_unreserved past job counter due =
-    is_none_by (last_reservation job.id past) (or_false (is_some (last_reservation job.id past)) (is_out past job.keyset) (none_if (is_served past job) (next_counter job.keyset past) counter due).0).0
+    is_none_by (last_reservation job.id past) (or_parts (is_some (last_reservation job.id past)) (is_out past job.keyset) (none_if (is_served past job) (next_counter job.keyset past) counter due).0).0
 
 or_none : {A : Type 0} (a b : Option A) → option_or a b ≡ None → b ≡ None
 or_none None b e = e
@@ -62,8 +58,8 @@ unreserved_before before added id none =
 pub due_legal : (past : List Entry) (job : Job) (counter : ℕ) → due_counter past job ≡ Some counter → broken past (reservation_for job counter) ≡ None
 due_legal past job counter due =
     let tests = none_if (is_served past job) (next_counter job.keyset past) counter due in
-    let parts = or_false (is_some (last_reservation job.id past)) (is_out past job.keyset) tests.0 in
-    let outs = or_false (is_some (broken_in_use job.keyset past)) (not (nat_le (next_counter job.keyset past) LAST_COUNTER)) parts.1 in
+    let parts = or_parts (is_some (last_reservation job.id past)) (is_out past job.keyset) tests.0 in
+    let outs = or_parts (is_some (broken_in_use job.keyset past)) (not (nat_le (next_counter job.keyset past) LAST_COUNTER)) parts.1 in
     let in_use = is_none_by (broken_in_use job.keyset past) outs.0 in
     let none = is_none_by (last_reservation job.id past) parts.0 in
     rw (in_use, none, ← tests.1, not_false (nat_le (next_counter job.keyset past) LAST_COUNTER) outs.1, eq-eqb (next_counter job.keyset past) (next_counter job.keyset past) refl) refl
@@ -102,7 +98,7 @@ served_past past row job counter due served =
         → (is_some (last_reservation row.id (reservation_for job counter ∷ past)) || is_out (reservation_for job counter ∷ past) row.keyset) ≡ true
     by_keyset true is out =
         let tests = none_if (is_served past job) (next_counter job.keyset past) counter due in
-        let parts = or_false (is_some (last_reservation job.id past)) (is_out past job.keyset) tests.0 in
+        let parts = or_parts (is_some (last_reservation job.id past)) (is_out past job.keyset) tests.0 in
         absurd (true_is_false (sym (subst (λ (k : Keyset). is_out past k ≡ true) (sym (is_same_keyset-true job.keyset row.keyset is)) out) ∙ parts.1))
     by_keyset false is out =
         right_true (is_some (last_reservation row.id (reservation_for job counter ∷ past))) (is_out (reservation_for job counter ∷ past) row.keyset)

@@ -1,13 +1,8 @@
-use Rattle.std.proofs.Common.{◌<◌, List, [], ◌∷◌, length, arith}
-use Rattle.lane_session.proofs.LaneLaws.{all_joined, all_ready}
+use Rattle.std.proofs.Common.{arith}
+use Rattle.lane_session.proofs.LaneLaws.{first_of, all_joined, all_ready}
 use Rattle.lane_session.proofs.FrontLaws.{fronts}
 use Rattle.lane_session.proofs.OpenLaws.{all_opened}
 use Rattle.lane_session.proofs.session.add_for_rows.Goals as goal
-
--- an element of a list that has one
-first_of : {A : Type 0} (xs : List A) → 0 < length xs → A
-first_of [] none = absurd (omega arith)
-first_of (x ∷ xs) some = x
 
 pub reserve_rows-requires-clause-ready : goal.reserve_rows-requires-clause-ready
 reserve_rows-requires-clause-ready g c =
