@@ -41,7 +41,6 @@ pub struct Journal {
 }
 
 impl Model for Journal {
-    ghost use Rattle.counter_journal.specs.HistoryReading.{PartsAnswer, is_damage};
     ghost use Rattle.counter_journal.specs.JournalReading.{JournalValue};
     ghost use Rattle.counter_journal.specs.JournalKept.{IsJournalKept};
 
@@ -96,6 +95,13 @@ impl Journal {
         ensures of_lane { All (IsEntryOf self.now.lane self.now.lanes) self.now.entries }
     {
         &self.history
+    }
+
+    /// Gives the history that the journal holds.
+    pub fn into_history(self) -> History
+        ensures { result.entries ≡ self.entries }
+    {
+        self.history
     }
 
     /// The length of the journal's log in octets.

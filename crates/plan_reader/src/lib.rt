@@ -18,5 +18,6 @@ mod texts;
 
 pub use columns::Column;
 pub use job_lists::{JobsErr, read_jobs};
+pub use numbers::number;
 pub use plans::{CardList, Plan, PlanErr, read_plan};
 pub use tables::{Field, Table};

@@ -4,7 +4,7 @@ ghost use Rattle.plan_reader.specs.Number.{number_of, plain_number_of, is_numera
 
 /// The number of at most `most` that a numeral of at most `width` digits writes; zeros may stand in front.
 #[tactic(auto, unfolding(crate::specs::Number::number_of))]
-pub(crate) fn number(digits: &[u8], width: usize, most: u64) -> Option<u64>
+pub fn number(digits: &[u8], width: usize, most: u64) -> Option<u64>
     requires { width ≤ 18 }
     ensures read { result ≡ number_of width most digits.now }
     ensures below { IfSome result (λ number. number ≤ most) }
