@@ -1,5 +1,5 @@
 -- Laws of all lanes, of which a row changes one.
-use Rattle.std.proofs.Common.{◌≡◌, ◌≢◌, ℕ, ◌+◌, ◌%◌, ◌≤◌, ◌<◌, Bool, true, false, eqb, List, [], ◌∷◌, length, reverse, get_or, set, Option, Some, None, refl, inl, inr, sym, ap, subst, ◌∙◌, arith}
+use Rattle.std.proofs.Common.{◌≡◌, ◌≢◌, ℕ, ◌+◌, ◌%◌, ◌≤◌, ◌<◌, Bool, true, false, eqb, List, [], ◌∷◌, length, reverse, get_or, set, Option, Some, None, refl, inl, inr, sym, ap, subst, ◌∙◌, arith, below_more}
 use Rattle.std.proofs.lemmas.Bool.{eqb-true, eqb-false, cases_lt}
 use Rattle.std.proofs.lemmas.List.{get_or-set_same, get_or-set_other, get_or_default, length-set}
 use Rattle.disk_model.specs.Counts.{Counts}
@@ -187,24 +187,21 @@ module _ {D B C : Type 0} (told : Meaning D B C) (counts : D → Counts) (plan :
     each = λ k start site before lane below. next_at k start site before lane below (eqb k number) refl;
   }
 
-  done_at : (k : ℕ) (lane : Lane) → k < number + 1 → k < length befores → (same : Bool) → eqb k number ≡ same → AreOpened plan jobs k (length befores) (length jobs) (get_or (set lanes number after) k lane) []
-  done_at k lane below in_lanes true same =
-      let is : k ≡ number = eqb-true k number same in
-      let lane-is : get_or (set lanes number after) k lane ≡ after = ap (λ (m : ℕ). get_or (set lanes m after) k lane) (sym is) ∙ get_or-set_same lanes k after lane (omega (arith, in_lanes, passed.same_lanes)) in
-      subst (λ (b : Lane). AreOpened plan jobs k (length befores) (length jobs) b []) (sym lane-is) (subst (λ (m : ℕ). AreOpened plan jobs m (length befores) (length jobs) after []) (sym is) now_open)
-  done_at k lane below in_lanes false same =
-      let other : k ≢ number = eqb-false k number same in
-      subst (λ (b : Lane). AreOpened plan jobs k (length befores) (length jobs) b []) (sym (get_or-set_other lanes number k after lane other)) (opened.done k lane (less k below other) in_lanes)
-    where
-      less : (k : ℕ) → k < number + 1 → k ≢ number → k < number
-      less k below other = elim (cases_lt k number) [
-        | inl early ↦ early
-        | inr late ↦ absurd (other (omega (arith, below, late)))
-      ]
+  -- the lane of this number is done
+  abbrev IsDoneAt : ℕ → Type 0
+  IsDoneAt k = (lane : Lane) → k < length befores → AreOpened plan jobs k (length befores) (length jobs) (get_or (set lanes number after) k lane) []
+
+  done_here : IsDoneAt number
+  done_here lane in_lanes =
+      subst (λ (b : Lane). AreOpened plan jobs number (length befores) (length jobs) b []) (sym (get_or-set_same lanes number after lane (omega (arith, in_lanes, passed.same_lanes)))) now_open
+
+  done_below : (k : ℕ) → k < number → IsDoneAt k
+  done_below k below lane in_lanes =
+      subst (λ (b : Lane). AreOpened plan jobs k (length befores) (length jobs) b []) (sym (get_or-set_other lanes number k after lane (λ is. absurd (omega (arith, below, is))))) (opened.done k lane below in_lanes)
 
   pub next_opened : OpenedBelow told plan jobs starts befores (set sites number new) (set lanes number after) (number + 1)
   next_opened = record {
-    done = λ k lane below in_lanes. done_at k lane below in_lanes (eqb k number) refl;
+    done = λ k lane below in_lanes. below_more IsDoneAt number done_below done_here k below lane in_lanes;
     same_site = λ k site from. get_or-set_other sites number k new site (above k from) ∙ opened.same_site k site (omega (arith, from));
     same_lane = λ k lane from. get_or-set_other lanes number k after lane (above k from) ∙ opened.same_lane k lane (omega (arith, from));
   }

@@ -1,3 +1,5 @@
+pub mod DifferenceLaws
+pub mod FormattingLaws
 pub mod FrontLaws
 pub mod LaneLaws
 pub mod OpenLaws

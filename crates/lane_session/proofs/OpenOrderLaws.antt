@@ -1,6 +1,6 @@
 -- Laws of the order in which keysets are opened.
-use Rattle.std.proofs.Common.{◌≡◌, ◌≢◌, ◌⊎◌, ℕ, ◌+◌, ◌%◌, ◌<◌, Bool, true, false, eqb, ◌||◌, List, [], ◌∷◌, ◌++◌, length, reverse, get_or, set, Some, None, Result, Ok, Err, refl, inl, inr, sym, ap, subst, ◌∙◌, append_assoc, arith}
-use Rattle.std.proofs.lemmas.Bool.{eqb-true, eqb-false, cases_lt, or_from, or_parts}
+use Rattle.std.proofs.Common.{◌≡◌, ◌≢◌, ◌⊎◌, ℕ, ◌+◌, ◌%◌, ◌<◌, Bool, true, false, ◌||◌, List, [], ◌∷◌, ◌++◌, length, reverse, get_or, set, Some, None, Result, Ok, Err, refl, inl, inr, sym, ap, subst, ◌∙◌, append_assoc, arith, below_more}
+use Rattle.std.proofs.lemmas.Bool.{or_from, or_parts}
 use Rattle.std.proofs.lemmas.List.{append-nil, reverse-append, get_or-set_same, get_or-set_other, get_or_default}
 use Rattle.std.proofs.lemmas.List.Folds.{list_any-append}
 use Rattle.disk_model.specs.Counts.{Counts}
@@ -190,23 +190,19 @@ order_none plan jobs befores lanes = record { done = λ k before lane below with
 module _ (plan : Plan) (jobs : List Job) (befores lanes : List Lane) (number : ℕ) (after : Lane) (l : Lane) (within : number < length befores) (same_lanes : length lanes ≡ length befores)
     (same_lane : get_or lanes number l ≡ get_or befores number l) (kept : OrderBelow plan jobs befores lanes number)
     (step : IsOpenedInOrder plan number (length befores) jobs [] (get_or lanes number l) after []) where
-  order_at : (k : ℕ) (before lane : Lane) → k < number + 1 → k < length befores → (same : Bool) → eqb k number ≡ same → IsOpenedInOrder plan k (length befores) jobs [] (get_or befores k before) (get_or (set lanes number after) k lane) []
-  order_at k before lane below in_lanes true same =
-      let is : k ≡ number = eqb-true k number same in
-      let lane-is : get_or (set lanes number after) number lane ≡ after = get_or-set_same lanes number after lane (omega (arith, within, same_lanes)) in
+  -- the lane of this number is opened in order
+  abbrev IsInOrderAt : ℕ → Type 0
+  IsInOrderAt k = (before lane : Lane) → k < length befores → IsOpenedInOrder plan k (length befores) jobs [] (get_or befores k before) (get_or (set lanes number after) k lane) []
+
+  order_here : IsInOrderAt number
+  order_here before lane in_lanes =
       let before-is : get_or lanes number l ≡ get_or befores number before = same_lane ∙ get_or_default befores number l before within in
-      subst (λ (m : ℕ). IsOpenedInOrder plan m (length befores) jobs [] (get_or befores m before) (get_or (set lanes number after) m lane) []) (sym is)
-      (subst (λ (b : Lane). IsOpenedInOrder plan number (length befores) jobs [] (get_or befores number before) b []) (sym lane-is)
-      (subst (λ (b : Lane). IsOpenedInOrder plan number (length befores) jobs [] b after []) before-is step))
-  order_at k before lane below in_lanes false same =
-      let other : k ≢ number = eqb-false k number same in
-      subst (λ (b : Lane). IsOpenedInOrder plan k (length befores) jobs [] (get_or befores k before) b []) (sym (get_or-set_other lanes number k after lane other)) (kept.done k before lane (less k below other) in_lanes)
-    where
-      less : (k : ℕ) → k < number + 1 → k ≢ number → k < number
-      less k below other = elim (cases_lt k number) [
-        | inl early ↦ early
-        | inr late ↦ absurd (other (omega (arith, below, late)))
-      ]
+      subst (λ (b : Lane). IsOpenedInOrder plan number (length befores) jobs [] (get_or befores number before) b []) (sym (get_or-set_same lanes number after lane (omega (arith, within, same_lanes))))
+      (subst (λ (b : Lane). IsOpenedInOrder plan number (length befores) jobs [] b after []) before-is step)
+
+  order_below : (k : ℕ) → k < number → IsInOrderAt k
+  order_below k below before lane in_lanes =
+      subst (λ (b : Lane). IsOpenedInOrder plan k (length befores) jobs [] (get_or befores k before) b []) (sym (get_or-set_other lanes number k after lane (λ is. absurd (omega (arith, below, is))))) (kept.done k before lane below in_lanes)
 
   pub next_order : OrderBelow plan jobs befores (set lanes number after) (number + 1)
-  next_order = record { done = λ k before lane below in_lanes. order_at k before lane below in_lanes (eqb k number) refl }
+  next_order = record { done = λ k before lane below in_lanes. below_more IsInOrderAt number order_below order_here k below before lane in_lanes }

@@ -1,5 +1,5 @@
 -- Laws of opening the journals of all lanes, one after the other.
-use Rattle.std.proofs.Common.{◌≡◌, ◌≢◌, ℕ, ◌+◌, ◌≤◌, ◌<◌, Bool, true, false, eqb, List, [], ◌∷◌, ◌++◌, length, get_or, set, refl, inl, inr, sym, ap, subst, ◌∙◌, arith}
+use Rattle.std.proofs.Common.{◌≡◌, ◌≢◌, ℕ, ◌+◌, ◌≤◌, ◌<◌, Bool, true, false, eqb, List, [], ◌∷◌, ◌++◌, length, get_or, set, refl, inl, inr, sym, ap, subst, ◌∙◌, arith, below_more}
 use Rattle.std.proofs.lemmas.Bool.{eqb-true, eqb-false, cases_lt}
 use Rattle.std.proofs.lemmas.List.{get_or-set_same, get_or-set_other, get_or_default, get_or_append_left, get_or_push, length-set, length-append}
 use Rattle.disk_model.specs.Counts.{Counts}
@@ -65,29 +65,26 @@ module _ {D B C : Type 0} (told : Meaning D B C) (counts : D → Counts) where
 
       -- the site of this number was opened
       module _ (s : D) (after : Lane) (now : IsOpenedSite told counts number (length olds) (get_or news number s) new after) where
-        here : (k : ℕ) (old site : D) (lane : Lane) → k < number + 1 → (same : Bool) → eqb k number ≡ same
-            → IsOpenedSite told counts k (length olds) (get_or olds k old) (get_or (set news number new) k site) (get_or (lanes ++ after ∷ []) k lane)
-        here k old site lane below true same =
-            let is : k ≡ number = eqb-true k number same in
-            subst (λ (m : ℕ). IsOpenedSite told counts m (length olds) (get_or olds m old) (get_or (set news number new) m site) (get_or (lanes ++ after ∷ []) m lane)) (sym is)
-            (subst (λ (d : D). IsOpenedSite told counts number (length olds) (get_or olds number old) d (get_or (lanes ++ after ∷ []) number lane)) (sym (site_here site))
+        -- the lane of this number is opened
+        abbrev IsOpenedAt : ℕ → Type 0
+        IsOpenedAt k = (old site : D) (lane : Lane) → IsOpenedSite told counts k (length olds) (get_or olds k old) (get_or (set news number new) k site) (get_or (lanes ++ after ∷ []) k lane)
+
+        here : IsOpenedAt number
+        here old site lane =
+            subst (λ (d : D). IsOpenedSite told counts number (length olds) (get_or olds number old) d (get_or (lanes ++ after ∷ []) number lane)) (sym (site_here site))
             (subst (IsOpenedSite told counts number (length olds) (get_or olds number old) new) (sym (get_or_push lanes after lane number opened.count))
-            (subst (λ (d : D). IsOpenedSite told counts number (length olds) d new after) (site_was old s) now)))
-        here k old site lane below false same =
+            (subst (λ (d : D). IsOpenedSite told counts number (length olds) d new after) (site_was old s) now))
+
+        under : (k : ℕ) → k < number → IsOpenedAt k
+        under k less old site lane =
             subst (IsOpenedSite told counts k (length olds) (get_or olds k old) (get_or (set news number new) k site)) (sym (get_or_append_left lanes (after ∷ []) lane k (omega (arith, less, opened.count))))
             (site_below k old site lane less)
-          where
-            less : k < number
-            less = elim (cases_lt k number) [
-              | inl early ↦ early
-              | inr late ↦ absurd (eqb-false k number same (omega (arith, below, late)))
-            ]
 
         pub one_more : AreOpenedBelow told counts olds (set news number new) (lanes ++ after ∷ []) (number + 1)
         one_more = record {
           count = length-append lanes (after ∷ []) ∙ ap (λ (m : ℕ). m + 1) opened.count;
           same_sites = same_length;
-          each = λ k old site lane below. here k old site lane below (eqb k number) refl;
+          each = λ k old site lane below. below_more IsOpenedAt number under here k below old site lane;
           untouched = λ k site above. site_above k site (omega (arith, above));
         }
 

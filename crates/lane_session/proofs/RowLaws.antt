@@ -157,7 +157,7 @@ module _ {D B C : Type 0} (told : Meaning D B C) (counts : D → Counts) where
       held = λ tells image at. subst (λ (e : List Entry). HoldsNearly lane lanes e image) (sym (ap (λ j. j.entries) same)) (run.held tells image at);
       ready = λ tells. subst (λ (end : Option LogErr). UnlessFailed end (IsReady told site after.journal)) (sym end_is)
           (subst (IsReady told site) (sym same) (subst (λ (end : Option LogErr). UnlessFailed end (IsReady told site now.journal)) goes_on (run.ready tells)));
-      cause = subst (EndCause (counts start) (counts site)) (sym end_is) (subst (λ (end : Option LogErr). EndCause (counts start) (counts site) end) goes_on run.cause);
+      cause = subst (EndCause (counts start) (counts site)) (sym end_is) (tt, subst (λ (end : Option LogErr). EndCause (counts start) (counts site) end) goes_on run.cause);
       full = subst (IsFullFor (λ next. All (IsAddedFor plan jobs before) next) after.journal) (sym end_is) tt;
     }
 

@@ -22,7 +22,7 @@ use Rattle.counter_journal.specs.EntryRanges.{IsEntry, IsEntryOf, IsOfLane}
 use Rattle.counter_journal.specs.Journal.{journal_head}
 use Rattle.counter_journal.specs.JournalReading.{parts_for, Holds, JournalValue, IsReady, IsSameJournal, IsBeforeCalls}
 use Rattle.lane_session.specs.Rows.{IsAddedFor}
-use Rattle.lane_session.specs.Run.{AreAdded, HoldsGrown, HoldsNearly, EndCause, UnlessFailed, IsFullFor, IsAddition, IsRun, IsLaneReady}
+use Rattle.lane_session.specs.Run.{AreAdded, HoldsGrown, HoldsNearly, IsStop, EndCause, UnlessFailed, IsFullFor, IsAddition, IsRun, IsLaneReady}
 use Rattle.lane_session.specs.declared.lanes.Lane.{Lane}
 
 -- ---- entries behind entries
@@ -133,7 +133,7 @@ module _ {D B C : Type 0} (told : Meaning D B C) (counts : D → Counts) (plan :
   }
 
   -- nothing was done
-  module _ (error : LogErr) (a : IsAddition told counts site new now after more (Err error)) (before_calls : IsBeforeCalls error)
+  module _ (error : LogErr) (a : IsAddition told counts site new now after more (Err error)) (before_calls : IsBeforeCalls error) (is_stop : IsStop error)
       (not_failed : (P : Type 0) → P → UnlessFailed (Some error) P) (is_full : IsFullFor (λ next. All (IsAddedFor plan jobs before) next) after.journal (Some error)) where
     same_site : new ≡ site
     same_site = a.unchanged before_calls
@@ -154,7 +154,7 @@ module _ {D B C : Type 0} (told : Meaning D B C) (counts : D → Counts) (plan :
           (in_lane lane lanes after.journal.lane after.journal.lanes after.journal.entries image (a.err.lane ∙ run.lane_is) (a.err.lanes ∙ run.lanes_are)
           (ready_holds told new after.journal (ready_after tells) image at));
       ready = λ tells. subst (λ (end : Option LogErr). UnlessFailed end (IsReady told new after.journal)) (sym a.end_is) (not_failed (IsReady told new after.journal) (ready_after tells));
-      cause = subst (EndCause (counts start) (counts new)) (sym a.end_is) (subst (λ c. ErrCause c (counts new) error) same_counts a.cause.answer);
+      cause = subst (EndCause (counts start) (counts new)) (sym a.end_is) (is_stop, subst (λ c. ErrCause c (counts new) error) same_counts a.cause.answer);
       full = subst (IsFullFor (λ next. All (IsAddedFor plan jobs before) next) after.journal) (sym a.end_is) is_full;
     }
 
@@ -170,7 +170,7 @@ module _ {D B C : Type 0} (told : Meaning D B C) (counts : D → Counts) (plan :
     moments = moments_more a.fit a.moments;
     held = λ tells image at. held_either image (left_now told site new Either (a.moments (run.tells ∙ tells)) image at);
     ready = λ tells. subst (λ (end : Option LogErr). UnlessFailed end (IsReady told new after.journal)) (sym a.end_is) tt;
-    cause = subst (EndCause (counts start) (counts new)) (sym a.end_is) (subst (λ c. ErrCause c (counts new) (log_err.DiskFault fault)) same_counts a.cause.answer);
+    cause = subst (EndCause (counts start) (counts new)) (sym a.end_is) (tt, subst (λ c. ErrCause c (counts new) (log_err.DiskFault fault)) same_counts a.cause.answer);
     full = subst (IsFullFor (λ next. All (IsAddedFor plan jobs before) next) after.journal) (sym a.end_is) tt;
   }
     where
@@ -187,14 +187,14 @@ module _ {D B C : Type 0} (told : Meaning D B C) (counts : D → Counts) (plan :
   -- an addition, whatever its answer
   pub run_more : (result : Result (Unit {0}) LogErr) → IsAddition told counts site new now after more result → IsRun told counts plan jobs lane lanes start before new after
   run_more (Ok done) a = run_added a
-  run_more (Err log_err.Memory) a = run_refused log_err.Memory a tt (λ P p. p) tt
+  run_more (Err log_err.Memory) a = run_refused log_err.Memory a tt tt (λ P p. p) tt
   run_more (Err (log_err.DiskFault fault)) a = run_failed fault a
   run_more (Err log_err.Unformatted) a = absurd a.answer
   run_more (Err log_err.NotALog) a = absurd a.answer
   run_more (Err (log_err.OtherHead rest)) a = absurd a.answer
   run_more (Err (log_err.Damaged number)) a = absurd a.answer
   run_more (Err (log_err.Full size need)) a =
-      run_refused (log_err.Full size need) a tt (λ P p. p)
+      run_refused (log_err.Full size need) a tt tt (λ P p. p)
       (a.answer.1 ∙ sym a.err.length, omega (arith, a.answer.0, a.answer.1, a.answer.2), more, rows, a.answer.2)
 
 -- ---- runs one after the other

@@ -1,3 +1,5 @@
+pub mod Differences
+pub mod Formatting
 pub mod Opening
 pub mod Opens
 pub mod Past

@@ -34,10 +34,17 @@ pub record HoldsNearly (lane lanes : ℕ) (entries : List Entry) (image : List �
   pub few : length more ≤ 16
   pub holds : Holds lane lanes (entries ++ more) image
 
+-- what may stop a lane: want of memory, a fault of its disk, or want of room in its log
+abbrev pub IsStop : LogErr → Type 0
+IsStop log_err.Memory = Unit {0}
+IsStop (log_err.DiskFault fault) = Unit {0}
+IsStop (log_err.Full size need) = Unit {0}
+IsStop error = ⊥
+
 -- an end of a lane comes only with its cause: a fault of the disk only where its count rose
 abbrev pub EndCause : Counts → Counts → Option LogErr → Type 0
 EndCause before now None = now ≡ before
-EndCause before now (Some error) = ErrCause before now error
+EndCause before now (Some error) = IsStop error × ErrCause before now error
 
 -- the lane's disk is as the last addition that answered Ok left it
 abbrev pub UnlessFailed : Option LogErr → Type 0 → Type 0

@@ -1,8 +1,12 @@
 // Sessions of two lanes on disks in memory: what each lane holds afterwards.
-ghost use Rattle.std.specs.Prelude.{All, IfOk};
+ghost use Rattle.std.specs.Prelude.{◌≡◌, All, IfOk, length};
 ghost use Rattle.lane_session.specs.Lanes.{HasScript};
 
-use crate::{Lane, OpeningErr, add_for_rows, differs_in, open_lanes};
+use crate::due::differs_in;
+use crate::{
+    Lane, OpeningErr, add_for_rows, format_lanes, into_histories, job_difference,
+    keyset_difference, open_lanes,
+};
 use disk_model::{DiskCalls, DiskFault, MemDisk};
 use gate_log::LogErr;
 use ota_core::{CardId, Counter, Entry, Job, JobId, KeysetId, Memory, Mode, Octets, Tar};
@@ -17,6 +21,10 @@ const EVEN_PLAN: &str =
 /// The plan of card 8901, which is of lane 1 of 2.
 const ODD_PLAN: &str =
     "campaign = 7\n[[card]]\nnumber = 8901\n[[keyset]]\ncard = 8901\nkvn = 1\nkic = \"000102030405060708090a0b0c0d0e0f\"\nkid = \"2b7e151628aed2a6abf7158809cf4f3c\"\n";
+
+/// The same with another key for the cryptographic checksum.
+const ODD_PLAN_OTHER_KID: &str =
+    "campaign = 7\n[[card]]\nnumber = 8901\n[[keyset]]\ncard = 8901\nkvn = 1\nkic = \"000102030405060708090a0b0c0d0e0f\"\nkid = \"2b7e151628aed2a6abf7158809cf4f3d\"\n";
 
 const KIC: [u8; 16] = [
     0x00, 0x01, 0x02, 0x03, 0x04, 0x05, 0x06, 0x07, 0x08, 0x09, 0x0A, 0x0B, 0x0C, 0x0D, 0x0E, 0x0F,
@@ -327,5 +335,116 @@ fn a_row_that_is_unlike_its_reservation_differs(rt: HostRuntime) -> Result<(), F
     let mut shorter = row(alloc, 3, 8901)?;
     shorter.body = Octets::from_slice(alloc, &SCRIPT[..21])?;
     assert_eq!(rt; differs_in(entries, &shorter), Some(Counter(2)));
+    Ok(())
+}
+
+/// Makes the journals of two lanes.
+fn made<D: DiskCalls>(sites: &mut [D]) -> Result<Result<(), OpeningErr>, Fail> {
+    if sites.len() != 2 {
+        return Err(Fail::from("there are two lanes"));
+    }
+    Ok(format_lanes(sites))
+}
+
+/// Whether the making of the journals of lanes 0 and 1 of 2 answers so on disks of these octets, and leaves those. The
+/// second disk fails at this call, where it isn't 0.
+fn are_made(
+    alloc: Global,
+    octets: (&[u8], &[u8]),
+    call: u64,
+    answer: Result<(), OpeningErr>,
+    left: (&[u8], &[u8]),
+) -> Result<bool, Fail> {
+    let mut disks = disks(alloc, octets.0, octets.1, call)?;
+    let is_answer = made(&mut disks)? == answer;
+    if disks.len() != 2 {
+        return Ok(false);
+    }
+    Ok(is_answer && disks[0].content() == left.0 && disks[1].content() == left.1)
+}
+
+#[test]
+fn each_lane_has_a_journal_made(rt: HostRuntime) -> Result<(), Fail> {
+    let alloc = rt.alloc();
+    assert!(rt; are_made(alloc, (&[], &[]), 0, Ok(()), (EVEN, ODD))?);
+    let whole = (EVEN_OPENED, ODD_CLOSED);
+    assert!(rt; are_made(alloc, whole, 0, Ok(()), whole)?);
+    let second = (EVEN_OPENED, ODD);
+    assert!(rt; are_made(alloc, (EVEN_OPENED, &[]), 0, Ok(()), second)?);
+    let text = b"no journal at all".as_slice();
+    let not_a_log = Err(OpeningErr::Refused(1, LogErr::NotALog));
+    assert!(rt; are_made(alloc, (&[], text), 0, not_a_log, (EVEN, text))?);
+    let failed = LogErr::DiskFault(DiskFault::Failed);
+    let failed = Err(OpeningErr::Refused(1, failed));
+    assert!(rt; are_made(alloc, (&[], &[]), 1, failed, (EVEN, &[]))?);
+    // a lane that is refused leaves those behind it as they are
+    let other = LogErr::OtherHead([0, 1, 0, 2]);
+    let other = Err(OpeningErr::Refused(0, other));
+    assert!(rt; are_made(alloc, (ODD, &[]), 0, other, (ODD, &[]))?);
+    Ok(())
+}
+
+/// The keyset that a plan has otherwise than the lanes after a session.
+fn otherwise(alloc: Global, odd: &[u8], text: &str) -> Result<Option<KeysetId>, Fail> {
+    let mut disks = disks(alloc, EVEN_OPENED, odd, 0)?;
+    let lanes = session(alloc, &mut disks, ODD_PLAN)?;
+    Ok(keyset_difference(&lanes, &plan(alloc, text)?))
+}
+
+#[test]
+fn a_keyset_with_other_facts_than_the_plan_is_named(rt: HostRuntime) -> Result<(), Fail> {
+    let alloc = rt.alloc();
+    let keyset = Some(KeysetId {
+        card: CardId(8901),
+        kvn: 1,
+    });
+    assert_eq!(rt; otherwise(alloc, ODD, ODD_PLAN)?, None);
+    assert_eq!(rt; otherwise(alloc, ODD, EVEN_PLAN)?, None);
+    assert_eq!(rt; otherwise(alloc, ODD, ODD_PLAN_OTHER_KID)?, keyset);
+    // opened from another counter
+    assert_eq!(rt; otherwise(alloc, ODD_ALMOST_OUT, ODD_PLAN)?, keyset);
+    Ok(())
+}
+
+/// Job 1 on card 8901, and a second row: a job on a card, with this script.
+fn two_rows(alloc: Global, job: u32, card: u64, script: &[u8]) -> Result<Vec<Job>, Memory>
+    ensures { IfOk result (λ rows. length rows.items ≡ 2) }
+{
+    let first = row(alloc, 1, 8901)?;
+    let mut second = row(alloc, job, card)?;
+    second.body = Octets::from_slice(alloc, script)?;
+    Ok(vec![in alloc; first, second]?)
+}
+
+#[test]
+fn the_first_row_that_a_lane_holds_otherwise_is_named(rt: HostRuntime) -> Result<(), Fail> {
+    let alloc = rt.alloc();
+    let mut disks = disks(alloc, EVEN_OPENED, ODD, 0)?;
+    let lanes = session(alloc, &mut disks, ODD_PLAN)?;
+    let other = b"another script".as_slice();
+    let same = two_rows(alloc, 3, 8901, &SCRIPT)?;
+    assert_eq!(rt; job_difference(&lanes, &same), None);
+    let new = two_rows(alloc, 4, 8901, other)?;
+    assert_eq!(rt; job_difference(&lanes, &new), None);
+    let second = Some((2, Counter(2)));
+    let on_card = two_rows(alloc, 3, 8900, &SCRIPT)?;
+    assert_eq!(rt; job_difference(&lanes, &on_card), second);
+    let with_script = two_rows(alloc, 3, 8901, other)?;
+    assert_eq!(rt; job_difference(&lanes, &with_script), second);
+    // the reservation of job 2 is on lane 0
+    let on_lane = two_rows(alloc, 2, 8901, &SCRIPT)?;
+    assert_eq!(rt; job_difference(&lanes, &on_lane), Some((2, Counter(1))));
+    Ok(())
+}
+
+#[test]
+fn each_lane_gives_its_history(rt: HostRuntime) -> Result<(), Fail> {
+    let alloc = rt.alloc();
+    let mut disks = disks(alloc, EVEN_OPENED, ODD, 0)?;
+    let lanes = session(alloc, &mut disks, ODD_PLAN)?;
+    let histories = into_histories(alloc, lanes)?;
+    assert_eq!(rt; histories.len(), 2);
+    assert!(rt; holds(histories[0].entries(), 8900, 0, &[(1, 2)]));
+    assert!(rt; holds(histories[1].entries(), 8901, 0, &[(1, 1), (2, 3)]));
     Ok(())
 }
