@@ -1,6 +1,6 @@
 -- Laws of entries that are added one after the other.
-use Rattle.std.proofs.Common.{◌≡◌, ◌⊎◌, ℕ, ◌+◌, ◌-◌, ◌≤◌, All, List, [], ◌∷◌, ◌++◌, length, reverse, Option, Some, None, refl, sym, ap, subst, ◌∙◌, append_assoc, arith}
-use Rattle.std.proofs.lemmas.List.{reverse-append, append-nil, map-append, length-map}
+use Rattle.std.proofs.Common.{◌≡◌, ◌⊎◌, ℕ, ◌+◌, ◌-◌, ◌≤◌, All, List, [], ◌++◌, length, reverse, None, refl, sym, ap, subst, ◌∙◌, arith}
+use Rattle.std.proofs.lemmas.List.{map-append, length-map}
 use Rattle.std.proofs.lemmas.List.Elements.{All-append}
 use Rattle.disk_model.specs.Disk.{Meaning, DiskRun}
 use Rattle.gate_log.specs.Reading.{OpensTo}
@@ -9,11 +9,9 @@ use Rattle.counter_journal.specs.EntryOctets.{entry_octets}
 use Rattle.counter_journal.specs.EntryRanges.{IsEntry, IsOfLane, IsEntryOf}
 use Rattle.counter_journal.specs.JournalReading.{parts_for}
 use Rattle.counter_journal.specs.JournalKept.{IsJournalKept}
-use Rattle.std.specs.Option.{option_or}
-use Rattle.ota_core.specs.History.{broken, broken_batch}
+use Rattle.ota_core.specs.History.{broken_batch}
 use Rattle.ota_core.specs.HistoryValue.{HistoryValue}
 use Rattle.ota_core.specs.declared.entries.Entry.{Entry}
-use Rattle.ota_core.specs.declared.entries.Illegal.{Illegal}
 
 -- these entries are left, of those that are added to a history
 pub record AreLeft (old all entries rest : List Entry) (len start spare : ℕ) : Type 0 where
@@ -22,35 +20,6 @@ pub record AreLeft (old all entries rest : List Entry) (len start spare : ℕ) :
   pub len_is : len ≡ length rest
   pub room : length rest ≤ spare
   pub kept : start + length rest ≤ spare + length all
-
-first_none : (first second : Option Illegal) → option_or first second ≡ None → (first ≡ None) × (second ≡ None)
-first_none None second e = (refl, e)
-first_none (Some rule) second e = absurd cc
-
--- the next of them may be added
-pub next_follows : (entries rest : List Entry) (entry : Entry) (more : List Entry) → rest ≡ entry ∷ more → broken_batch (reverse entries) rest ≡ None
-    → (broken (reverse entries) entry ≡ None) × (broken_batch (reverse (entries ++ entry ∷ [])) more ≡ None)
-next_follows entries rest entry more is legal =
-    let both = first_none (broken (reverse entries) entry) (broken_batch (entry ∷ reverse entries) more) (ap (broken_batch (reverse entries)) (sym is) ∙ legal) in
-    (both.0, ap (λ (past : List Entry). broken_batch past more) (reverse-append entries (entry ∷ [])) ∙ both.1)
-
-pub left_more : (old all entries new rest more : List Entry) (entry : Entry) (len more_len start room new_room : ℕ) → AreLeft old all entries rest len start room → rest ≡ entry ∷ more → new ≡ entries ++ entry ∷ []
-    → more_len + 1 ≡ len → room ≤ new_room + 1 → AreLeft old all new more more_len start new_room
-left_more old all entries new rest more entry len more_len start room new_room left is new_is len_is room_is =
-    let longer : length rest ≡ length (entry ∷ more) = ap length is in
-    subst (λ (l : List Entry). AreLeft old all l more more_len start new_room) (sym new_is)
-    (record {
-      spelled = append_assoc entries (entry ∷ []) more ∙ ap (λ (l : List Entry). entries ++ l) (sym is) ∙ left.spelled;
-      legal = (next_follows entries rest entry more is left.legal).1;
-      len_is = omega (arith, left.len_is, len_is, longer);
-      room = omega (arith, left.room, room_is, longer);
-      kept = omega (arith, left.kept, room_is, longer);
-    })
-
-pub none_left : (old all entries rest : List Entry) (len start room : ℕ) → AreLeft old all entries rest len start room → len ≡ 0
-    → (entries ≡ old ++ all) × (start ≤ room + length all)
-none_left old all entries [] len start room left is = (sym (append-nil entries) ∙ left.spelled, omega (arith, left.kept))
-none_left old all entries (entry ∷ rest) len start room left is = absurd (omega (arith, left.len_is, is))
 
 -- ---- an addition
 

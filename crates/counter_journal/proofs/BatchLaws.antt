@@ -1,6 +1,6 @@
 -- Laws of a batch that entries are put into.
 use Rattle.std.proofs.Common.{◌≡◌, ℕ, ◌+◌, ◌-◌, ◌*◌, ◌≤◌, ◌<◌, List, [], ◌∷◌, ◌++◌, length, take, get_or, All, sym, ap, subst, ◌∙◌, arith}
-use Rattle.std.proofs.lemmas.List.{map-append, take_more, take_all}
+use Rattle.std.proofs.lemmas.List.{map-append, take_more}
 use Rattle.std.proofs.lemmas.List.Elements.{All-push}
 use Rattle.gate_log.specs.Batches.{BatchState, octets_in, octets_in-push}
 use Rattle.ota_core.specs.declared.entries.Entry.{Entry}
@@ -15,17 +15,6 @@ pub record ArePut (old batch : BatchState) (entries : List Entry) (count : ℕ) 
   pub octets_room : batch.octets_room + octets_in batch.parts ≡ old.octets_room
   pub sum : octets_in batch.parts ≤ LONGEST_ENTRY * count
   pub fit : All IsEntry (take count entries)
-
-pub put_none : (old : BatchState) (entries : List Entry) → old.parts ≡ [] → ArePut old old entries 0
-put_none old entries empty =
-    let zero_octets : octets_in old.parts ≡ 0 = ap octets_in empty in
-    record {
-      parts = empty;
-      parts_room = omega arith;
-      octets_room = omega (arith, zero_octets);
-      sum = omega (arith, zero_octets);
-      fit = λ k d below. absurd (omega arith);
-    }
 
 -- there is room for the next one
 pub has_room : (old batch : BatchState) (entries : List Entry) (count : ℕ) (len : ℕ) → ArePut old batch entries count → count < length entries
@@ -53,9 +42,3 @@ put_more old batch new entries count entry octets put below is spelled short fit
       sum = omega (arith, put.sum, sum, short);
       fit = subst (All IsEntry) (sym more) (All-push IsEntry (take count entries) entry put.fit fits);
     })
-
-pub put_all : (old batch : BatchState) (entries : List Entry) (count : ℕ) → ArePut old batch entries count → count ≡ length entries
-    → (batch.parts ≡ parts_for entries) × All IsEntry entries
-put_all old batch entries count put is =
-    let whole : take count entries ≡ entries = ap (λ (n : ℕ). take n entries) is ∙ take_all (length entries) entries (omega arith) in
-    (put.parts ∙ ap parts_for whole, subst (All IsEntry) whole put.fit)

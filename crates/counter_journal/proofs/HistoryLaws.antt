@@ -1,20 +1,19 @@
 -- Laws of the reading of a history.
-use Rattle.std.proofs.Common.{◌≡◌, ℕ, ◌+◌, ◌%◌, ◌<◌, true, false, List, [], ◌∷◌, ◌++◌, length, reverse, take, drop, get_or, Option, Some, None, Result, Ok, Err, refl, sym, ap, subst, ◌∙◌, arith}
+use Rattle.std.proofs.Common.{◌≡◌, ℕ, ◌+◌, ◌%◌, ◌<◌, true, false, List, [], ◌∷◌, ◌++◌, length, reverse, take, drop, get_or, Option, Some, None, Result, Ok, Err, refl, sym, ap, subst, ◌∙◌}
 use Rattle.std.specs.Prelude.{is_none, ◌==◌, IfOk}
-use Rattle.std.proofs.lemmas.Bool.{eqb-true, eq-eqb, and_from}
+use Rattle.std.proofs.lemmas.Bool.{eq-eqb, and_from}
 use Rattle.std.proofs.lemmas.Option.{none-some}
 use Rattle.std.proofs.lemmas.List.{map-append, reverse-append, take_more, take-append-drop, drop_more}
 use Rattle.std.proofs.lemmas.List.Elements.{All-push}
 use Rattle.ota_core.specs.Entry.{keyset_of}
 use Rattle.ota_core.specs.History.{broken, IsLegal, IsLegalPast}
 use Rattle.ota_core.specs.declared.entries.Entry.{Entry}
-use Rattle.ota_core.specs.declared.entries.Illegal.{Illegal}
 use Rattle.counter_journal.specs.EntryOctets.{entry_octets}
 use Rattle.counter_journal.specs.EntryRanges.{IsEntryOf, IsHistory}
 use Rattle.counter_journal.specs.EntryReading.{entry_in}
 use Rattle.counter_journal.specs.JournalReading.{parts_for, IsBad, StopsAt}
 use Rattle.counter_journal.specs.HistoryReading.{IsRead, IsNext, belongs}
-use Rattle.counter_journal.proofs.FieldLaws.{IsBytes, both_true}
+use Rattle.counter_journal.proofs.FieldLaws.{IsBytes}
 use Rattle.counter_journal.specs.EntriesAgain.{entry_again, one_entry}
 use Rattle.counter_journal.proofs.EntryLaws.{entry_takes}
 
@@ -26,14 +25,6 @@ is_read part None fits is = λ entry in_range same. none-some entry (is ∙ ap e
 pub is_read_ok : {E : Type 0} (part : List ℕ) (result : Result (Option Entry) E) → IsBytes part → IfOk result (λ found. found ≡ entry_in part) → IfOk result (IsRead part)
 is_read_ok part (Ok found) fits is = is_read part found fits is
 is_read_ok part (Err error) fits is = tt
-
--- a part that is no entry is bad
-pub bad_none : (lane lanes : ℕ) (entries : List Entry) (part : List ℕ) → IsRead part None → IsBad lane lanes entries part
-bad_none lane lanes entries part read = λ entry is same. absurd (read entry is.fits same)
-
-is_none_true : (found : Option Illegal) → is_none found ≡ true → found ≡ None
-is_none_true None e = refl
-is_none_true (Some rule) e = absurd cc
 
 -- an entry that does not belong is bad
 pub bad_entry : (lane lanes : ℕ) (entries : List Entry) (part : List ℕ) (found : Entry) → IsRead part (Some found) → belongs lane lanes entries found ≡ false
@@ -47,13 +38,6 @@ bad_entry lane lanes entries part found read differs = λ entry is spelled follo
     both_ways : true ≡ false → ⊥
     both_ways e = cc
 
--- an entry that belongs is the next
-pub next_entry : (lane lanes : ℕ) (entries : List Entry) (part : List ℕ) (found : Entry) → IsRead part (Some found) → belongs lane lanes entries found ≡ true
-    → IsNext lane lanes entries part (Some found)
-next_entry lane lanes entries part found read same =
-    let tests = both_true ((keyset_of found).card.0 % lanes == lane) (is_none (broken (reverse entries) found)) same in
-    (read.0, record { fits = read.1; of_lane = eqb-true _ _ tests.0 }, is_none_true (broken (reverse entries) found) tests.1)
-
 -- a legal history with a legal entry behind it
 pub IsLegal-push : (entries : List Entry) (entry : Entry) → IsLegal entries → broken (reverse entries) entry ≡ None → IsLegal (entries ++ entry ∷ [])
 IsLegal-push entries entry legal follows = subst IsLegalPast (sym (reverse-append entries (entry ∷ []))) (legal, follows)
@@ -62,9 +46,6 @@ IsLegal-push entries entry legal follows = subst IsLegalPast (sym (reverse-appen
 pub record IsReadTo (lane lanes : ℕ) (parts : List (List ℕ)) (count : ℕ) (entries : List Entry) : Type 0 where
   pub spelled : parts_for entries ≡ take count parts
   pub history : IsHistory lane lanes entries
-
-pub read_none : (lane lanes : ℕ) (parts : List (List ℕ)) → IsReadTo lane lanes parts 0 []
-read_none lane lanes parts = record { spelled = refl; history = record { legal = tt; of_lane = λ k d below. absurd (omega arith) } }
 
 pub read_more : (lane lanes : ℕ) (parts : List (List ℕ)) (count : ℕ) (entries : List Entry) (part : List ℕ) (entry : Entry) → count < length parts → part ≡ get_or parts count part
     → IsReadTo lane lanes parts count entries → IsNext lane lanes entries part (Some entry) → IsReadTo lane lanes parts (count + 1) (entries ++ entry ∷ [])

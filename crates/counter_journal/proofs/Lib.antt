@@ -2,7 +2,6 @@ pub mod AddLaws
 pub mod BatchLaws
 pub mod EntryLaws
 pub mod FieldLaws
-pub mod Frames
 pub mod HistoryLaws
 pub mod MakingLaws
 pub mod OpeningLaws

@@ -1,6 +1,5 @@
 -- Laws of an opening.
-use Rattle.std.proofs.Common.{◌≡◌, ◌⊎◌, ℕ, ◌+◌, true, false, List, [], length, Result, Ok, Err, refl, inl, inr, sym, ap, subst, ◌∙◌}
-use Rattle.std.proofs.lemmas.List.{length-map}
+use Rattle.std.proofs.Common.{◌≡◌, ◌⊎◌, ℕ, true, List, [], Result, Ok, Err, refl, inl, inr, sym, ap, subst, ◌∙◌}
 use Rattle.std.specs.Prelude.{IfOk, IfErr}
 use Rattle.disk_model.specs.Disk.{Meaning, Tells, DiskRun, image_now}
 use Rattle.disk_model.specs.Runs.{joined, weaker, left_now}
@@ -9,11 +8,10 @@ use Rattle.gate_log.specs.declared.log_errors.LogErr.TheVariants as log_err
 use Rattle.gate_log.specs.Reading.{Reading, parts_of, OpensTo}
 use Rattle.gate_log.specs.Reading.Reading.{Opened, Damaged}
 use Rattle.gate_log.specs.Answers.{Refuses, UnlessFault, IsNotDamaged}
-use Rattle.gate_log.specs.Opening.{IsOpened, IsOpenLog, OpensAlike}
+use Rattle.gate_log.specs.Opening.{IsOpened, OpensAlike}
 use Rattle.ota_core.specs.HistoryValue.{HistoryValue}
-use Rattle.counter_journal.specs.EntryOctets.{entry_octets}
 use Rattle.counter_journal.specs.Journal.{journal_head}
-use Rattle.counter_journal.specs.JournalReading.{parts_for, ReadsTo, JournalValue, JournalRefuses, IsOpenedOf, OpeningAnswer, IsReady}
+use Rattle.counter_journal.specs.JournalReading.{parts_for, ReadsTo, JournalValue, JournalRefuses, IsOpenedOf, OpeningAnswer}
 use Rattle.counter_journal.specs.HistoryReading.{HistoryAnswer, PartsAnswer, is_damage}
 
 -- a refusal for another cause than damage
@@ -61,39 +59,6 @@ opened_parts head old new len parts opened (inl read) =
     (opened.is ∙ ap (λ (p : List (List ℕ)). Opened p []) same, (opened.behind, opened.was ∙ ap (λ (p : List (List ℕ)). Opened p opened.behind) same))
 opened_parts head old new len parts opened (inr read) = absurd (not_damaged opened.parts parts [] (sym opened.is ∙ read))
 
-damaged_parts : (one other : List (List ℕ)) → Damaged one ≡ Damaged other → one ≡ other
-damaged_parts one other e = cc
-
--- where all parts are a history, the batch behind them is what is damaged
-pub ends_damaged : (lane lanes : ℕ) (read : Reading) (error : LogErr) (history : HistoryValue) → is_damage error ≡ true → Refuses read error → PartsAnswer lane lanes read (Ok history)
-    → JournalRefuses lane lanes read error
-ends_damaged lane lanes read log_err.Memory history damage refuses answer = absurd cc
-ends_damaged lane lanes read (log_err.DiskFault fault) history damage refuses answer = absurd cc
-ends_damaged lane lanes read log_err.Unformatted history damage refuses answer = absurd cc
-ends_damaged lane lanes read log_err.NotALog history damage refuses answer = absurd cc
-ends_damaged lane lanes read (log_err.OtherHead rest) history damage refuses answer = absurd cc
-ends_damaged lane lanes read (log_err.Full size need) history damage refuses answer = absurd cc
-ends_damaged lane lanes read (log_err.Damaged number) history damage refuses (inl opened, is) =
-    absurd (not_damaged (parts_for history.entries) refuses.0 opened.0 (sym opened.1 ∙ refuses.1))
-ends_damaged lane lanes read (log_err.Damaged number) history damage refuses (inr damaged, is) =
-    let same : refuses.0 ≡ parts_for history.entries = damaged_parts refuses.0 (parts_for history.entries) (sym refuses.1 ∙ damaged) in
-    inr (record {
-      entries = history.entries;
-      damaged = damaged;
-      history = is;
-      place = refuses.2 ∙ ap (λ (n : ℕ). n + 1) (ap length same ∙ length-map history.entries entry_octets);
-    })
-
--- a refusal for another cause is that of the log
-pub other_refusal : (lane lanes : ℕ) (read : Reading) (error : LogErr) → is_damage error ≡ false → Refuses read error → JournalRefuses lane lanes read error
-other_refusal lane lanes read log_err.Memory other refuses = refuses
-other_refusal lane lanes read (log_err.DiskFault fault) other refuses = refuses
-other_refusal lane lanes read log_err.Unformatted other refuses = refuses
-other_refusal lane lanes read log_err.NotALog other refuses = refuses
-other_refusal lane lanes read (log_err.OtherHead rest) other refuses = refuses
-other_refusal lane lanes read (log_err.Damaged number) other refuses = absurd cc
-other_refusal lane lanes read (log_err.Full size need) other refuses = refuses
-
 -- a run, and then calls that only look
 pub then_looks : {D B C : Type 0} (told : Meaning D B C) (old mid new : D) (P : List ℕ → Type 0) → DiskRun told old mid P → DiskRun told mid new (image_now told mid) → DiskRun told old new P
 then_looks told old mid new P first second =
@@ -132,14 +97,3 @@ opened_journal told old new lane lanes said len history (Ok journal) is opened a
     subst (IsOpenedOf lane lanes (told.seen old)) (sym made) (record { lane_is = refl; lanes_are = refl; history = answer.1; holds = parts.1 })
 opened_journal told old new lane lanes said len history (Err error) is opened answer made err =
     subst (JournalRefuses lane lanes (parts_of (journal_head lane lanes) (told.seen old))) (sym err) tt
-
--- and it is ready
-pub ready_journal : {D B C : Type 0} (told : Meaning D B C) (old new : D) (lane lanes : ℕ) (said : List ℕ) (len : ℕ) (history : HistoryValue) (result : Result JournalValue LogErr)
-    → said ≡ journal_head lane lanes → IsOpened said (told.seen old) (told.seen new) len → IsOpenLog told new len → PartsAnswer lane lanes (parts_of (journal_head lane lanes) (told.seen new)) (Ok history)
-    → IfOk result (λ journal. journal ≡ record { lane = lane; lanes = lanes; entries = history.entries; length = len; room = 0 })
-    → IfOk result (IsReady told new)
-ready_journal told old new lane lanes said len history (Ok journal) is opened open_log answer made =
-    let opened_head = subst (λ (h : List ℕ). IsOpened h (told.seen old) (told.seen new) len) is opened in
-    let parts = opened_parts (journal_head lane lanes) (told.seen old) (told.seen new) len (parts_for history.entries) opened_head answer.0 in
-    subst (IsReady told new) (sym made) (record { open_log = open_log; holds = parts.0 })
-ready_journal told old new lane lanes said len history (Err error) is opened open_log answer made = tt

@@ -51,11 +51,6 @@ one_history lane lanes a b octets fit_a fit_b holds_a holds_b =
 pub fit_of : (lane lanes : ℕ) (entries : List Entry) → All (IsEntryOf lane lanes) entries → All IsEntry entries
 fit_of lane lanes entries all = λ k d below. (all k d below).fits
 
--- the same of two histories of the lane
-pub one_history_of : (lane lanes : ℕ) (a b : List Entry) (octets : List ℕ) → IsHistory lane lanes a → IsHistory lane lanes b → Holds lane lanes a octets → Holds lane lanes b octets → a ≡ b
-one_history_of lane lanes a b octets is_a is_b =
-    one_history lane lanes a b octets (fit_of lane lanes a is_a.of_lane) (fit_of lane lanes b is_b.of_lane)
-
 -- ---- a history is read
 
 -- the entry of these behind others, of which all have these parts

@@ -6,7 +6,5 @@ pub mod JournalReading
 pub mod JournalKept
 pub mod JournalMaking
 pub mod HistoryReading
-pub mod Causes
 pub mod EntriesAgain
 pub mod JournalLaws
-pub mod Laws

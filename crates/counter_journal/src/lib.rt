@@ -2,7 +2,6 @@
 #![tactic(auto)]
 
 mod batches;
-mod encoding;
 mod entries_read;
 mod entries_written;
 mod fields;
@@ -11,12 +10,10 @@ mod heads;
 mod histories_read;
 mod journals;
 mod laws;
-mod narrow_journal;
 
 pub use formats::format;
 pub use journals::Journal;
 pub use laws::{one_history, written_entries_are_read};
-pub use narrow_journal::{JournalErr, NarrowJournal};
 
 #[cfg(test)]
 mod tests;

@@ -11,6 +11,11 @@ use ota_core::{
 use std::alloc::Global;
 use std::test::Fail;
 
+/// The journal of lane 0 of 1 without entries. 11 octets.
+const EMPTY: [u8; 11] = [
+    0xA5, 0x4F, 0x54, 0x41, 0x4A, 0x01, 0x00, 0x00, 0x00, 0x01, 0x00,
+];
+
 /// The keyset 1 of card 8901 (22C5) is opened by the session: counter 0, process only if higher, ciphered, two keys of
 /// 16 octets. 55 octets.
 const OPEN: &[u8] = &[
@@ -24,6 +29,14 @@ const OPEN: &[u8] = &[
 const RESERVE: &[u8] = &[
     0x02, 0x00, 0x00, 0x00, 0x01, 0x00, 0x00, 0x00, 0x00, 0x00, 0x00, 0x22, 0xC5, 0x01, 0x00, 0x00,
     0x00, 0x00, 0x01, 0x00, 0x00, 0x00, 0x07, 0x00, 0x00, 0x00, 0x01, 0xB0, 0x00, 0x10, 0x00, 0xA4,
+    0x00, 0x00, 0x02, 0x7F, 0x10, 0x00, 0xA4, 0x00, 0x00, 0x02, 0x6F, 0x3A, 0x00, 0xD6, 0x00, 0x00,
+    0x03, 0xAA, 0xBB, 0xCC,
+];
+
+/// Sender 1 reserves its counter 2 for job 2, with the same application and script. 52 octets.
+const SECOND: &[u8] = &[
+    0x02, 0x00, 0x00, 0x00, 0x01, 0x00, 0x00, 0x00, 0x00, 0x00, 0x00, 0x22, 0xC5, 0x01, 0x00, 0x00,
+    0x00, 0x00, 0x02, 0x00, 0x00, 0x00, 0x07, 0x00, 0x00, 0x00, 0x02, 0xB0, 0x00, 0x10, 0x00, 0xA4,
     0x00, 0x00, 0x02, 0x7F, 0x10, 0x00, 0xA4, 0x00, 0x00, 0x02, 0x6F, 0x3A, 0x00, 0xD6, 0x00, 0x00,
     0x03, 0xAA, 0xBB, 0xCC,
 ];
@@ -88,7 +101,8 @@ fn opened() -> Result<Entry, Fail>
     })
 }
 
-fn reserved(alloc: Global) -> Result<Entry, Memory>
+/// The reservation of the counter and of the job of this number.
+fn reserved(alloc: Global, number: u32) -> Result<Entry, Memory>
     ensures sized { IfOk result IsSized }
     ensures of_lane { IfOk result (IsOfLane 0 1) }
 {
@@ -96,10 +110,10 @@ fn reserved(alloc: Global) -> Result<Entry, Memory>
     Ok(Entry::Reserve {
         by: 1,
         keyset: keyset(),
-        counter: Counter(1),
+        counter: Counter(u64::from(number)),
         job: JobId {
             campaign: 7,
-            job: 1,
+            job: number,
         },
         tar: Tar([0xB0, 0x00, 0x10]),
         body,
@@ -235,19 +249,29 @@ fn are_same(one: &Entry, other: &Entry) -> bool {
     }
 }
 
-/// Whether the journal of lane 0 of 1 holds these entries.
-fn holds<D: DiskCalls>(alloc: Global, disk: &mut D, entries: &[Entry]) -> Result<bool, LogErr> {
-    let journal = Journal::open(alloc, disk, 0, 1)?;
-    let held = journal.history().entries();
+/// Whether these entries are those.
+fn are_these(held: &[Entry], entries: &[Entry]) -> bool {
     if held.len() != entries.len() {
-        return Ok(false);
+        return false;
     }
     for i in 0..held.len() {
         if !are_same(&held[i], &entries[i]) {
-            return Ok(false);
+            return false;
         }
     }
-    Ok(true)
+    true
+}
+
+/// Whether the journal of lane 0 of 1 holds these entries.
+fn holds<D: DiskCalls>(alloc: Global, disk: &mut D, entries: &[Entry]) -> Result<bool, LogErr> {
+    let journal = Journal::open(alloc, disk, 0, 1)?;
+    Ok(are_these(journal.history().entries(), entries))
+}
+
+/// Whether the journal of lane 0 of 1 gives the history of these entries.
+fn gives<D: DiskCalls>(alloc: Global, disk: &mut D, entries: &[Entry]) -> Result<bool, LogErr> {
+    let history = Journal::open(alloc, disk, 0, 1)?.into_history();
+    Ok(are_these(history.entries(), entries))
 }
 
 /// Opens the journal of lane 0 of 1 and adds an entry that may follow. The length of the journal then.
@@ -296,6 +320,18 @@ fn a_journal_is_made_where_none_is(rt: HostRuntime) -> Result<(), Fail> {
     Ok(())
 }
 
+#[test]
+fn a_journal_without_entries_opens(rt: HostRuntime) -> Result<(), Fail> {
+    let alloc = rt.alloc();
+    let mut disk = MemDisk::of(alloc, &EMPTY)?;
+    let opened = Journal::open(alloc, &mut disk, 0, 1);
+    let journal = opened.ok().ok_or("these are the octets of a journal")?;
+    assert_eq!(rt; journal.length(), 11);
+    assert!(rt; journal.history().entries().is_empty());
+    assert!(rt; disk.content() == EMPTY.as_slice());
+    Ok(())
+}
+
 /// Whether an entry that is added to these makes a journal of so many octets, which are those of these entries.
 fn adds(
     alloc: Global,
@@ -316,7 +352,16 @@ fn adds(
 fn entries_are_added_by_their_octets(rt: HostRuntime) -> Result<(), Fail> {
     let alloc = rt.alloc();
     assert!(rt; adds(alloc, &[], opened()?, 75, &[OPEN])?);
-    assert!(rt; adds(alloc, &[OPEN], reserved(alloc)?, 136, &[OPEN, RESERVE])?);
+    assert!(rt; adds(alloc, &[OPEN], reserved(alloc, 1)?, 136, &[OPEN, RESERVE])?);
+    assert!(rt;
+        adds(
+            alloc,
+            &[OPEN, RESERVE],
+            reserved(alloc, 2)?,
+            197,
+            &[OPEN, RESERVE, SECOND]
+        )?
+    );
     assert!(rt;
         adds(
             alloc,
@@ -354,10 +399,19 @@ fn reads(alloc: Global, parts: &[&[u8]], entries: &[Entry]) -> Result<bool, Fail
 #[test]
 fn entries_are_read_back(rt: HostRuntime) -> Result<(), Fail> {
     let alloc = rt.alloc();
-    let answered = vec![in alloc; opened()?, reserved(alloc)?, done(alloc)?]?;
+    let answered = vec![in alloc; opened()?, reserved(alloc, 1)?, done(alloc)?]?;
     assert!(rt; reads(alloc, &[OPEN, RESERVE, DONE], &answered)?);
-    let settled = vec![in alloc; opened()?, reserved(alloc)?, refused(), closed()]?;
+    let settled = vec![in alloc; opened()?, reserved(alloc, 1)?, refused(), closed()]?;
     assert!(rt; reads(alloc, &[OPEN, RESERVE, REFUSED, CLOSE], &settled)?);
+    Ok(())
+}
+
+#[test]
+fn a_journal_gives_its_history(rt: HostRuntime) -> Result<(), Fail> {
+    let alloc = rt.alloc();
+    let entries = vec![in alloc; opened()?, reserved(alloc, 1)?, reserved(alloc, 2)?]?;
+    let mut disk = MemDisk::of(alloc, &journal(alloc, 0, 1, &[OPEN, RESERVE, SECOND])?)?;
+    assert!(rt; gives(alloc, &mut disk, &entries) == Ok(true));
     Ok(())
 }
 
@@ -469,7 +523,7 @@ fn armed(alloc: Global, octets: &[u8], call: u32, image: Image) -> Result<MemDis
 
 /// Whether the journal of lane 0 of 1 holds the first two entries, or with `third` all three.
 fn holds_up_to<D: DiskCalls>(alloc: Global, disk: &mut D, third: bool) -> Result<bool, Fail> {
-    let mut entries = vec![in alloc; opened()?, reserved(alloc)?]?;
+    let mut entries = vec![in alloc; opened()?, reserved(alloc, 1)?]?;
     if third {
         entries.push(done(alloc)?)?;
     }
