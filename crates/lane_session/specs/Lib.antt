@@ -12,3 +12,6 @@ pub mod Due
 pub mod Live
 pub mod LiveCounts
 pub mod OneLive
+pub mod Sound
+pub mod SoundSteps
+pub mod SoundLaws
