@@ -99,7 +99,8 @@ impl Journal {
 
     /// Gives the history that the journal holds.
     pub fn into_history(self) -> History
-        ensures { result.entries ≡ self.entries }
+        ensures entries { result.entries ≡ self.entries }
+        ensures of_lane { All (IsEntryOf self.lane self.lanes) result.entries }
     {
         self.history
     }
