@@ -1,7 +1,7 @@
-pub mod LegalSession
-pub mod Adding
+pub mod Causes
+pub mod Complete
+pub mod EndLaws
 pub mod NineWords
-pub mod NarrowSession
-pub mod Decisions
-pub mod Reading
-pub mod Singles
+pub mod RowLaws
+pub mod Sound
+pub mod WrittenBack

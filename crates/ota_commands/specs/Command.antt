@@ -1,39 +1,160 @@
--- How a command ended that works on one lane.
-use Rattle.std.specs.Prelude.{◌≡◌, ◌⊎◌, ℕ, Bool, true, false, ◌==◌, ◌&&◌, Option, Some, None, IfSome, List, [], ◌∷◌, length, replicate}
+-- What a command does: the cases of its course, each with its answer.
+use Rattle.std.specs.Prelude.{◌≡◌, ◌⊎◌, ℕ, Bool, IsTrue, Option, Some, None, List, [], length, replicate}
 use Rattle.disk_model.specs.Counts.{Counts}
 use Rattle.disk_model.specs.Disk.{Meaning}
-use Rattle.ota_commands.specs.Inputs.{Input}
-use Rattle.ota_commands.specs.Answers.{seen_of, disk_input, Comes, decided, IsDecided}
-use Rattle.ota_commands.specs.Exit.{StoppedBefore, ReservedAsSaid}
+use Rattle.ota_core.specs.declared.jobs.Job.{Job}
+use Rattle.plan_reader.specs.Jobs.{are_distinct}
+use Rattle.plan_reader.specs.declared.plans.Plan.{Plan}
+use Rattle.reports.specs.Report.{report_of}
+use Rattle.lane_session.specs.Differences.{histories_of}
+use Rattle.lane_session.specs.Formatting.{AreFormattedBelow, IsFormattingErr}
+use Rattle.lane_session.specs.Opening.{AreOpenedBelow, IsOpeningErr}
+use Rattle.lane_session.specs.Lanes.{ArePassed, AllOpened, AllServed}
+use Rattle.lane_session.specs.Order.{AreFrontsOfDue}
+use Rattle.lane_session.specs.Rows.{NoneDiffers}
+use Rattle.lane_session.specs.declared.lanes.Lane.{Lane}
+use Rattle.lane_session.specs.declared.opening.OpeningErr.{OpeningErr}
+use Rattle.ota_commands.specs.Inputs.{Input, source_input, Says, ReadFaultComes, plan_reading, jobs_reading}
+use Rattle.ota_commands.specs.Ends.{fault_of_opening, difference, AreEnds, first_end}
+use Rattle.ota_commands.specs.Writing.{formatted_text, IsWritten, WriteCause, answer_of}
+use Rattle.ota_commands.specs.declared.words.Command.{Command}
+use Rattle.ota_commands.specs.declared.words.Command.TheVariants.{Format, Reserve}
+use Rattle.ota_commands.specs.declared.writing.Written.{Written}
+use Rattle.ota_commands.specs.declared.faults.Which.TheVariants as which
 use Rattle.ota_commands.specs.declared.faults.Fault.{Fault}
 use Rattle.ota_commands.specs.declared.faults.Fault.TheVariants.{Usage, Memory}
 
--- Nothing was done. Either the words aren't those of the command, or there is another number of sites than one; or
--- memory was wanting for the ends of the lanes, which are then none.
-pub record DidNothing {D S K : Type 0} (words : Bool) (sites_old sites_new : List D) (plan_old plan_new jobs_old jobs_new : S) (sink_old sink_new : K)
+-- no lane stopped
+abbrev pub NoneEnded : {D : Type 0} → List D → List (Option Fault) → Type 0
+NoneEnded sites ends = ends ≡ replicate (length sites) None
+
+-- the inputs couldn't be read: the plan, or the jobs behind a plan that was read
+abbrev pub ReadFails : Input → Input → Fault → Type 0
+ReadFails plan_input jobs_input fault =
+    ReadFaultComes which.Plan plan_reading plan_input fault
+    ⊎ ((plan : Plan) × Says plan_reading plan_input plan × ReadFaultComes which.Jobs (jobs_reading plan) jobs_input fault)
+
+-- Nothing was done. Either the words say no command for so many sites; or memory was wanting for the ends of the lanes,
+-- which are then none.
+pub record DidNothing {D S K : Type 0} (command : Option Command) (olds news : List D) (plan_old plan_new jobs_old jobs_new : S) (sink_old sink_new : K)
     (fault : Option Fault) (ends : List (Option Fault)) : Type 0 where
-  pub sites : sites_new ≡ sites_old
+  pub sites : news ≡ olds
   pub plan : plan_new ≡ plan_old
   pub jobs : jobs_new ≡ jobs_old
   pub sink : sink_new ≡ sink_old
-  pub status : ((fault ≡ Some Usage) × ((words && (length sites_old == 1)) ≡ false) × (ends ≡ replicate (length sites_old) None))
-      ⊎ ((fault ≡ Some Memory) × (ends ≡ []))
+  pub status : ((fault ≡ Some Usage) × (command ≡ None) × NoneEnded olds ends) ⊎ ((fault ≡ Some Memory) × (ends ≡ []))
 
--- The words are those of `reserve`, and it ran on the one site that there is.
 module _ {D B C K : Type 0} (told : Meaning D B C) (counts : D → Counts) (sink_tells : K → Bool) (written : K → List ℕ) (sink_faults : K → ℕ) where
-  pub record RanReserve (words : Bool) (sites_old sites_new : List D) (plan jobs : Input) (sink_old sink_new : K)
-      (fault : Option Fault) (ends : List (Option Fault)) : Type 0 where
-    pub disk_old : D
-    pub disk_new : D
-    pub end : Option Fault
-    pub site : sites_old ≡ disk_old ∷ []
-    pub site_back : sites_new ≡ disk_new ∷ []
-    pub ends_are : ends ≡ end ∷ []
-    pub words_are : words ≡ true
-    -- what was added to the journal and written to the output: nothing, or what was reserved and its report
-    pub outcome : IfSome fault (λ f. StoppedBefore told sink_tells written disk_old disk_new sink_old sink_new f end)
-        ⊎ ReservedAsSaid told sink_tells written plan jobs disk_old disk_new sink_old sink_new fault end
-    -- each fault has its cause
-    pub status : IfSome fault (Comes (seen_of true plan jobs (disk_input told (counts disk_old).faults (counts disk_new).faults disk_old) (sink_faults sink_old) (sink_faults sink_new)))
-    -- and where all is told and no count of faults rose, the answer is decided, but for want of memory
-    pub complete : IsDecided (decided (seen_of true plan jobs (disk_input told (counts disk_old).faults (counts disk_new).faults disk_old) (sink_faults sink_old) (sink_faults sink_new))) fault
+  -- ---- the making of the journals
+
+  -- A site was refused. The journals of the lanes before it stand, and nothing was written.
+  pub record HasRefusedFormat (olds news : List D) (sink_old sink_new : K) (fault : Option Fault) : Type 0 where
+    pub error : OpeningErr
+    pub refused : IsFormattingErr told counts olds news error
+    pub fault_is : fault ≡ Some (fault_of_opening error)
+    pub unwritten : sink_new ≡ sink_old
+
+  -- The journals of all lanes stand, and the text says so.
+  pub record HasFormatted (olds news : List D) (sink_old sink_new : K) (fault : Option Fault) : Type 0 where
+    pub formatted : AreFormattedBelow told counts olds news (length olds)
+    pub output : Written
+    pub text : IsTrue (sink_tells sink_old) → IsWritten (formatted_text (length olds)) (written sink_old) (written sink_new) output
+    pub cause : WriteCause (sink_faults sink_old) (sink_faults sink_new) output
+    pub fault_is : fault ≡ answer_of output None
+
+  abbrev pub HasRunFormat : List D → List D → K → K → Option Fault → Type 0
+  HasRunFormat olds news sink_old sink_new fault = HasRefusedFormat olds news sink_old sink_new fault ⊎ HasFormatted olds news sink_old sink_new fault
+
+  pub record RanFormat {S : Type 0} (command : Option Command) (olds news : List D) (plan_old plan_new jobs_old jobs_new : S) (sink_old sink_new : K) (fault : Option Fault) (ends : List (Option Fault)) : Type 0 where
+    pub command_is : command ≡ Some Format
+    pub plan : plan_new ≡ plan_old
+    pub jobs : jobs_new ≡ jobs_old
+    pub not_ended : NoneEnded olds ends
+    pub run : HasRunFormat olds news sink_old sink_new fault
+
+  -- ---- the reservations
+
+  -- The inputs couldn't be read. No site was called, and nothing was written.
+  pub record HasNotRead (plan_input jobs_input : Input) (olds news : List D) (sink_old sink_new : K) (fault : Option Fault) (ends : List (Option Fault)) : Type 0 where
+    pub reason : Fault
+    pub fails : ReadFails plan_input jobs_input reason
+    pub fault_is : fault ≡ Some reason
+    pub sites : news ≡ olds
+    pub unwritten : sink_new ≡ sink_old
+    pub not_ended : NoneEnded olds ends
+
+  -- A journal was refused, or memory was wanting for the lanes. Nothing was added or written.
+  pub record HasRefused (olds news : List D) (sink_old sink_new : K) (fault : Option Fault) (ends : List (Option Fault)) : Type 0 where
+    pub error : OpeningErr
+    pub refused : IsOpeningErr told counts olds news error
+    pub fault_is : fault ≡ Some (fault_of_opening error)
+    pub unwritten : sink_new ≡ sink_old
+    pub not_ended : NoneEnded olds ends
+
+  -- The journals differ from the plan or the rows. Nothing was added or written.
+  pub record HasDiffered (plan : Plan) (jobs : List Job) (olds news : List D) (sink_old sink_new : K) (fault : Option Fault) (ends : List (Option Fault)) : Type 0 where
+    pub opened : List Lane
+    pub are_opened : AreOpenedBelow told counts olds news opened (length olds)
+    pub reason : Fault
+    pub differs : difference plan jobs (histories_of opened) ≡ Some reason
+    pub fault_is : fault ≡ Some reason
+    pub unwritten : sink_new ≡ sink_old
+    pub not_ended : NoneEnded olds ends
+
+  -- What the rows ask for was added to opened lanes, up to where a lane stopped; and the text is the report of what the
+  -- lanes then hold.
+  pub record HasAdded (plan : Plan) (jobs : List Job) (opens news : List D) (opened : List Lane) (sink_old sink_new : K) (fault : Option Fault) (ends : List (Option Fault)) : Type 0 where
+    pub lanes : List Lane
+    pub passed : ArePassed told counts plan jobs opens opened news lanes
+    pub order : AreFrontsOfDue plan jobs opened lanes
+    pub keysets : AllOpened plan jobs lanes
+    pub rows : AllServed jobs (length jobs) lanes
+    pub ends_are : AreEnds lanes ends
+    pub output : Written
+    pub text : IsTrue (sink_tells sink_old) → IsWritten (report_of jobs (histories_of lanes)) (written sink_old) (written sink_new) output
+    pub cause : WriteCause (sink_faults sink_old) (sink_faults sink_new) output
+    pub fault_is : fault ≡ answer_of output (first_end ends)
+
+  pub record HasReserved (plan : Plan) (jobs : List Job) (olds news : List D) (sink_old sink_new : K) (fault : Option Fault) (ends : List (Option Fault)) : Type 0 where
+    pub opens : List D
+    pub opened : List Lane
+    pub are_opened : AreOpenedBelow told counts olds opens opened (length olds)
+    pub none_differs : difference plan jobs (histories_of opened) ≡ None
+    pub agree : NoneDiffers jobs (histories_of opened)
+    pub distinct : IsTrue (are_distinct jobs)
+    pub added : HasAdded plan jobs opens news opened sink_old sink_new fault ends
+
+  -- with this plan and these jobs
+  abbrev pub HasRunOn : Plan → List Job → List D → List D → K → K → Option Fault → List (Option Fault) → Type 0
+  HasRunOn plan jobs olds news sink_old sink_new fault ends =
+      HasRefused olds news sink_old sink_new fault ends
+      ⊎ HasDiffered plan jobs olds news sink_old sink_new fault ends
+      ⊎ HasReserved plan jobs olds news sink_old sink_new fault ends
+
+  -- with the plan and the jobs that the inputs say
+  pub record HasRead (plan_input jobs_input : Input) (olds news : List D) (sink_old sink_new : K) (fault : Option Fault) (ends : List (Option Fault)) : Type 0 where
+    pub plan : Plan
+    pub jobs : List Job
+    pub plan_said : Says plan_reading plan_input plan
+    pub jobs_said : Says (jobs_reading plan) jobs_input jobs
+    pub run : HasRunOn plan jobs olds news sink_old sink_new fault ends
+
+  abbrev pub HasRunReserve : Input → Input → List D → List D → K → K → Option Fault → List (Option Fault) → Type 0
+  HasRunReserve plan_input jobs_input olds news sink_old sink_new fault ends =
+      HasNotRead plan_input jobs_input olds news sink_old sink_new fault ends ⊎ HasRead plan_input jobs_input olds news sink_old sink_new fault ends
+
+  pub record RanReserve (command : Option Command) (plan_input jobs_input : Input) (olds news : List D) (sink_old sink_new : K) (fault : Option Fault) (ends : List (Option Fault)) : Type 0 where
+    pub command_is : command ≡ Some Reserve
+    pub run : HasRunReserve plan_input jobs_input olds news sink_old sink_new fault ends
+
+-- ---- the course of a command
+
+module _ {D B C K S : Type 0} (told : Meaning D B C) (counts : D → Counts) (sink_tells : K → Bool) (written : K → List ℕ) (sink_faults : K → ℕ)
+    (source_tells : S → Bool) (left : S → List ℕ) (source_faults : S → ℕ) where
+  -- nothing was done, or the journals were made, or counters were reserved
+  abbrev pub IsCourse : Option Command → List D → List D → S → S → S → S → K → K → Option Fault → List (Option Fault) → Type 0
+  IsCourse command olds news plan_old plan_new jobs_old jobs_new sink_old sink_new fault ends =
+      DidNothing command olds news plan_old plan_new jobs_old jobs_new sink_old sink_new fault ends
+      ⊎ RanFormat told counts sink_tells written sink_faults command olds news plan_old plan_new jobs_old jobs_new sink_old sink_new fault ends
+      ⊎ RanReserve told counts sink_tells written sink_faults command (source_input source_tells left source_faults plan_old plan_new) (source_input source_tells left source_faults jobs_old jobs_new)
+      olds news sink_old sink_new fault ends

@@ -1,15 +1,17 @@
 -- What the inputs of a command say.
-use Rattle.std.specs.Prelude.{◌≡◌, ℕ, nat_le, Bool, if◌then◌else◌, Option, Some, None, IfSome, Result, Ok, Err, List, length}
+use Rattle.std.specs.Prelude.{◌≡◌, ℕ, ◌<◌, ◌^◌, nat_le, Bool, IsTrue, if◌then◌else◌, Option, Some, None, IfSome, Result, Ok, Err, List, length, All}
 use Rattle.std.specs.Option.{ok_or}
-use Rattle.ota_io.specs.Calls.{HasRisen, next}
+use Rattle.ota_io.specs.Calls.{HasRisen}
 use Rattle.ota_io.specs.Octets.{text_limit}
 use Rattle.ota_core.specs.declared.jobs.Job.{Job}
-use Rattle.plan_reader.specs.NarrowPlan.{plan_of, IsPlanText}
-use Rattle.plan_reader.specs.NarrowJobs.{jobs_of, IsJobsText}
+use Rattle.plan_reader.specs.Jobs.{are_distinct}
+use Rattle.plan_reader.specs.NarrowPlan.{plan_of}
+use Rattle.plan_reader.specs.NarrowJobs.{jobs_of}
 use Rattle.plan_reader.specs.declared.plans.Plan.{Plan}
 use Rattle.plan_reader.specs.declared.tables.Table.TheVariants.{Top}
 use Rattle.plan_reader.specs.declared.tables.Field.TheVariants.{Text}
 use Rattle.plan_reader.specs.declared.columns.Column.TheVariants.{Header}
+use Rattle.lane_session.specs.Lanes.{HasScript}
 use Rattle.ota_commands.specs.declared.faults.Which.{Which}
 use Rattle.ota_commands.specs.declared.faults.Which.TheVariants as which
 use Rattle.ota_commands.specs.declared.faults.Fault.{Fault}
@@ -25,9 +27,9 @@ pub record Input : Type 0 where
 abbrev pub input_of : Bool → List ℕ → ℕ → ℕ → Input
 input_of tells octets before now = record { octets = if tells then Some octets else None; before = before; now = now }
 
--- the octets of an input whose count of faults didn't rise
-abbrev pub unfailed : Input → Option (List ℕ)
-unfailed input = if nat_le (next input.before) input.now then None else input.octets
+-- a source as an input
+abbrev pub source_input : {S : Type 0} → (S → Bool) → (S → List ℕ) → (S → ℕ) → S → S → Input
+source_input tells left faults old new = input_of (tells old) (left old) (faults old) (faults new)
 
 -- the text of an input, or that it is too long
 abbrev pub text_reading : Which → List ℕ → Result (List ℕ) Fault
@@ -56,10 +58,8 @@ ReadFaultComes of reading input (fault.PlanRefused table row field) = (which.Pla
 ReadFaultComes of reading input (fault.JobsRefused row column) = (which.Jobs ≡ of) × IfSome input.octets (λ octets. reading octets ≡ Err (fault.JobsRefused row column))
 ReadFaultComes of reading input _ = ⊥
 
--- the plan was spelled in the narrow form
-abbrev pub IsSpelledPlan : Plan → Type 0
-IsSpelledPlan plan = (text : List ℕ) × IsPlanText plan text
-
--- the jobs were spelled in the narrow form for the plan
-abbrev pub AreSpelledJobs : Plan → List Job → Type 0
-AreSpelledJobs plan jobs = (text : List ℕ) × IsJobsText plan jobs text
+-- the rows that a list of jobs gives: scripts of 1 to 4,096 octets, no job twice, and so few that their numbers fit 32 bits
+pub record AreRows (jobs : List Job) : Type 0 where
+  pub scripts : All HasScript jobs
+  pub distinct : IsTrue (are_distinct jobs)
+  pub few : length jobs < 2 ^ 32

@@ -1,8 +1,7 @@
 pub mod Fault
 pub mod Words
 pub mod Inputs
-pub mod Session
-pub mod Answers
-pub mod Exit
-pub mod Added
+pub mod Writing
+pub mod Ends
 pub mod Command
+pub mod Answers

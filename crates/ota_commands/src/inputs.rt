@@ -1,5 +1,5 @@
 ghost use Rattle.std.specs.Prelude.{◌≡◌, IfOk, IfErr};
-ghost use Rattle.ota_commands.specs.Inputs.{input_of, text_reading, plan_reading, jobs_reading, Says, ReadFaultComes, IsSpelledPlan, AreSpelledJobs};
+ghost use Rattle.ota_commands.specs.Inputs.{input_of, text_reading, plan_reading, jobs_reading, Says, ReadFaultComes, AreRows};
 ghost use Rattle.ota_commands.specs.Fault.{fault_of_plan, fault_of_jobs};
 
 use crate::faults::{Fault, Which};
@@ -14,7 +14,6 @@ pub fn plan_from<S: Source>(alloc: Global, source: &mut S) -> Result<Plan, Fault
         IfOk result (Says plan_reading input) }
     ensures fault { let input = input_of (S.tells source.old) (S.left source.old) (S.faults source.old) (S.faults source.new) in
         IfErr result (ReadFaultComes Which.Plan plan_reading input) }
-    ensures spelled { IfOk result IsSpelledPlan }
 {
     let text = text_from(alloc, source, Which::Plan)?;
     match read_plan(alloc, &text) {
@@ -29,7 +28,7 @@ pub fn jobs_from<S: Source>(alloc: Global, source: &mut S, plan: &Plan) -> Resul
         IfOk result (λ jobs. Says (jobs_reading plan.now) input jobs.items) }
     ensures fault { let input = input_of (S.tells source.old) (S.left source.old) (S.faults source.old) (S.faults source.new) in
         IfErr result (ReadFaultComes Which.Jobs (jobs_reading plan.now) input) }
-    ensures spelled { IfOk result (λ jobs. AreSpelledJobs plan.now jobs.items) }
+    ensures rows { IfOk result (λ jobs. AreRows jobs.items) }
 {
     let text = text_from(alloc, source, Which::Jobs)?;
     match read_jobs(alloc, &text, plan) {

@@ -1,18 +1,18 @@
 //! The commands of the gateway: what each reads, what it adds to the journals, and what it writes.
 #![tactic(auto)]
 
+mod ends;
 mod faults;
+mod formatting;
 mod inputs;
-mod lane_run;
 mod plain;
-mod reporting;
 mod reserving;
-mod sessions;
 mod words;
+mod writing;
 
 pub use faults::{Fault, Which};
 pub use plain::{Ended, plain_command};
-pub use words::is_reserve;
+pub use words::{Command, Words, read_words};
 
 #[cfg(test)]
 mod tests;

@@ -1,26 +1,19 @@
-ghost use Rattle.std.specs.Prelude.{◌≡◌, ◌⊎◌, [], ◌∷◌, true, None, IsTrue, IfSome, IfOk, Some, length, vec_len, map, string_bytes, replicate};
-ghost use Rattle.disk_model.specs.Disk.{Tells};
-ghost use Rattle.gate_log.specs.Append.{IsSettled};
-ghost use Rattle.plan_reader.specs.Jobs.{are_distinct};
-ghost use Rattle.counter_journal.specs.Journal.{journal_octets};
-ghost use Rattle.ota_commands.specs.Words.{is_reserve};
-ghost use Rattle.ota_commands.specs.Inputs.{input_of, unfailed, plan_reading, jobs_reading, Says, IsSpelledPlan, AreSpelledJobs};
-ghost use Rattle.ota_commands.specs.Session.{IsShort, AreOnOne, entries_for};
-ghost use Rattle.ota_commands.specs.Answers.{seen_of, source_input, disk_input, LaneFaultComes, Comes, behind_journal, decided, IsDecided};
+ghost use Rattle.std.specs.Prelude.{◌≡◌, ◌≤◌, None, Some, IfSome, IfOk, length, map, string_bytes, replicate};
+ghost use Rattle.lane_session.specs.Sound.{AreSound, StaySound};
+ghost use Rattle.ota_commands.specs.Words.{command_for};
 ghost use Rattle.ota_commands.specs.Fault.{status_of_end};
-ghost use Rattle.ota_commands.specs.Command.{DidNothing, RanReserve};
-ghost use Rattle.ota_commands.specs.Exit.{RanLane, StoppedBefore, HasReserved, ReservedAsSaid};
+ghost use Rattle.ota_commands.specs.Command.{NoneEnded, IsCourse};
+ghost use Rattle.ota_commands.specs.Answers.{seen_of, Comes, IsComplete, AllOpen};
+ghost use Rattle.ota_commands.specs.declared.words.Command.TheVariants as commands;
 
 use crate::faults::Fault;
-use crate::inputs::{jobs_from, plan_from};
-use crate::lane_run::{LaneRun, end_of, fault_of_journal, run_lane};
-use crate::reporting::{answer_of, write_report};
-use crate::words::is_reserve;
-use counter_journal::NarrowJournal;
-use disk_model::{Disk, DiskCalls};
-use ota_core::{Job, Memory};
+use crate::formatting::format;
+use crate::reserving::reserve;
+use crate::words::{Command, command_for};
+use disk_model::DiskCalls;
+use ota_core::Memory;
 use ota_io::{Sink, Source};
-use plan_reader::Plan;
+use site_model::Site;
 use std::alloc::Global;
 
 /// How a command ended. The sites are those that were handed in, one a lane, in order.
@@ -36,34 +29,86 @@ pub struct Ended<T> {
     pub sites: Vec<T>,
 }
 
-/// Carries out a command that sends nothing. Now it is `reserve`, on one lane.
+/// Carries out a command that sends nothing, on the sites of all lanes in order. Paths in its words are for the program
+/// alone.
 ///
-/// `reserve --lanes 1 --store PATH --plan PATH --jobs PATH` reads the plan and the jobs, opens an empty journal, reserves
-/// a counter for each job, each durably before the next, and writes the report. The paths are for the program alone.
-pub fn plain_command<S: Source, K: Sink, D: Disk>(
+/// `format --lanes N --store PATH` makes the journals where none are made, and writes how many lanes there are. A site that
+/// holds something else ends it.
+///
+/// `reserve --lanes N --store PATH --plan PATH --jobs PATH` reads the plan and the jobs, opens the journals, and ends with
+/// nothing written where one is refused, or where they differ from the plan or the jobs. Else it adds an Open for each
+/// keyset that a job names and the journals lack, lane by lane; then it reserves a counter for each job that has none, one
+/// job after the other, each durably before the next; and writes the report. A lane that fails stops, and the others go on.
+pub fn plain_command<S: Source, K: Sink, T: Site>(
     alloc: Global,
     words: &[String],
     plan: &mut S,
     jobs: &mut S,
     out: &mut K,
-    sites: Vec<D>,
-) -> Ended<D>
+    sites: Vec<T>,
+) -> Ended<T>
     ensures status { result.status ≡ status_of_end result.fault }
-    ensures command { DidNothing (is_reserve (map string_bytes words.now)) sites.items result.sites.items plan.old plan.new jobs.old jobs.new out.old out.new result.fault result.ends.items
-        ⊎ RanReserve D.told D.counts K.tells K.written K.faults (is_reserve (map string_bytes words.now)) sites.items result.sites.items
-        (source_input S.tells S.left S.faults plan.old plan.new) (source_input S.tells S.left S.faults jobs.old jobs.new) out.old out.new result.fault result.ends.items }
+    ensures course { IsCourse T.told T.counts K.tells K.written K.faults S.tells S.left S.faults (command_for (map string_bytes words.now) (length sites.items))
+        sites.items result.sites.items plan.old plan.new jobs.old jobs.new out.old out.new result.fault result.ends.items }
+    ensures sound { AreSound T.told sites.items → StaySound T.told sites.items result.sites.items }
+    ensures formatted { AreSound T.told sites.items → command_for (map string_bytes words.now) (length sites.items) ≡ Some commands.Format → result.fault ≡ None → AllOpen T.told result.sites.items }
+    ensures cause { IfSome result.fault (Comes T.told T.counts (seen_of S.tells S.left S.faults K.faults (command_for (map string_bytes words.now) (length sites.items))
+        sites.items result.sites.items plan.old plan.new jobs.old jobs.new out.old out.new)) }
+    ensures complete { IsComplete T.told T.counts (seen_of S.tells S.left S.faults K.faults (command_for (map string_bytes words.now) (length sites.items))
+        sites.items result.sites.items plan.old plan.new jobs.old jobs.new out.old out.new) result.fault }
 {
+    let mut sites = sites;
     let mut ends = match no_ends(alloc, sites.len()) {
         Ok(ends) => ends,
         Err(_) => return end_with(Some(Fault::Memory), Vec::new(alloc), sites),
     };
-    if !is_reserve(words) || sites.len() != 1 {
-        return end_with(Some(Fault::Usage), ends, sites);
-    }
-    let mut sites = sites;
-    let LaneEnded { fault, end } = reserve(alloc, plan, jobs, out, &mut sites[0]);
-    ends[0] = end;
+    let command = command_for(words, sites.len());
+    let fault = carry_out(alloc, command, plan, jobs, out, &mut sites, &mut ends);
     end_with(fault, ends, sites)
+}
+
+/// Carries out a command, where there is one.
+fn carry_out<S: Source, K: Sink, T: DiskCalls>(
+    alloc: Global,
+    command: Option<Command>,
+    plan: &mut S,
+    jobs: &mut S,
+    out: &mut K,
+    sites: &mut [T],
+    ends: &mut [Option<Fault>],
+) -> Option<Fault>
+    requires some { IfSome command (λ command. 1 ≤ length sites.old) }
+    requires few { IfSome command (λ command. length sites.old ≤ 64) }
+    requires not_ended { NoneEnded sites.old ends.old }
+    ensures course { IsCourse T.told T.counts K.tells K.written K.faults S.tells S.left S.faults command sites.old sites.new plan.old plan.new jobs.old jobs.new out.old out.new result ends.new }
+    ensures sound { AreSound T.told sites.old → StaySound T.told sites.old sites.new }
+    ensures formatted { AreSound T.told sites.old → command ≡ Some commands.Format → result ≡ None → AllOpen T.told sites.new }
+    ensures cause { IfSome result (Comes T.told T.counts (seen_of S.tells S.left S.faults K.faults command sites.old sites.new plan.old plan.new jobs.old jobs.new out.old out.new)) }
+    ensures complete { IsComplete T.told T.counts (seen_of S.tells S.left S.faults K.faults command sites.old sites.new plan.old plan.new jobs.old jobs.new out.old out.new) result }
+{
+    run(alloc, command, plan, jobs, out, sites, ends)
+}
+
+/// Runs a command, where there is one.
+fn run<S: Source, K: Sink, T: DiskCalls>(
+    alloc: Global,
+    command: Option<Command>,
+    plan: &mut S,
+    jobs: &mut S,
+    out: &mut K,
+    sites: &mut [T],
+    ends: &mut [Option<Fault>],
+) -> Option<Fault>
+    requires some { IfSome command (λ command. 1 ≤ length sites.old) }
+    requires few { IfSome command (λ command. length sites.old ≤ 64) }
+    requires not_ended { NoneEnded sites.old ends.old }
+    ensures { IsCourse T.told T.counts K.tells K.written K.faults S.tells S.left S.faults command sites.old sites.new plan.old plan.new jobs.old jobs.new out.old out.new result ends.new }
+{
+    match command {
+        None => Some(Fault::Usage),
+        Some(Command::Format) => format(alloc, out, sites),
+        Some(Command::Reserve) => reserve(alloc, plan, jobs, out, sites, ends),
+    }
 }
 
 /// No end for each of so many sites.
@@ -97,97 +142,5 @@ fn status_of_end(fault: &Option<Fault>) -> u8
     match fault {
         None => 0,
         Some(fault) => fault.status(),
-    }
-}
-
-/// How a command on one lane ended: its fault, and that by which the lane stopped once it was opened.
-#[derive(Clone, Copy, Debug, PartialEq, Eq)]
-pub struct LaneEnded {
-    pub fault: Option<Fault>,
-    pub end: Option<Fault>,
-}
-
-/// Reserves in an empty journal, and writes the report.
-fn reserve_and_report<K: Sink, D: DiskCalls>(
-    alloc: Global,
-    plan: &Plan,
-    jobs: &[Job],
-    out: &mut K,
-    disk: &mut D,
-    journal: NarrowJournal,
-) -> LaneEnded
-    requires empty { Tells D.told disk.old → D.told.seen disk.old ≡ journal_octets [] }
-    requires settled { Tells D.told disk.old → IsSettled D.told disk.old 11 }
-    requires length { journal ≡ 11 }
-    requires plan { IsSpelledPlan plan.now }
-    requires jobs { AreSpelledJobs plan.now jobs.now }
-    ensures { RanLane D.told K.tells K.written D.counts K.faults plan.now jobs.now disk.old disk.new out.old out.new result.fault result.end }
-{
-    let LaneRun { history, added } = run_lane(alloc, disk, journal, plan, jobs);
-    let written = write_report(alloc, out, jobs, history);
-    LaneEnded {
-        fault: answer_of(written, added),
-        end: end_of(added),
-    }
-}
-
-/// Opens the journal, which has to be an empty one, reserves in it, and writes the report.
-fn open_and_reserve<K: Sink, D: DiskCalls>(
-    alloc: Global,
-    plan: &Plan,
-    jobs: &[Job],
-    out: &mut K,
-    disk: &mut D,
-) -> LaneEnded
-    requires plan { IsSpelledPlan plan.now }
-    requires jobs { AreSpelledJobs plan.now jobs.now }
-    ensures outcome { IfSome result.fault (λ fault. StoppedBefore D.told K.tells K.written disk.old disk.new out.old out.new fault result.end)
-        ⊎ HasReserved D.told K.tells K.written plan.now jobs.now disk.old disk.new out.old out.new result.fault result.end }
-    ensures cause { IfSome result.fault (LaneFaultComes (disk_input D.told (D.counts disk.old).faults (D.counts disk.new).faults disk.old) (K.faults out.old) (K.faults out.new)) }
-    ensures complete { IsDecided (behind_journal (unfailed (disk_input D.told (D.counts disk.old).faults (D.counts disk.new).faults disk.old)) (K.faults out.old) (K.faults out.new)) result.fault }
-{
-    match NarrowJournal::open(disk) {
-        Err(error) => LaneEnded {
-            fault: Some(fault_of_journal(error)),
-            end: None,
-        },
-        Ok(journal) => reserve_and_report(alloc, plan, jobs, out, disk, journal),
-    }
-}
-
-/// Reads the plan and the jobs, reserves a counter for each job in an empty journal, and writes the report.
-fn reserve<S: Source, K: Sink, D: DiskCalls>(
-    alloc: Global,
-    plan: &mut S,
-    jobs: &mut S,
-    out: &mut K,
-    disk: &mut D,
-) -> LaneEnded
-    ensures outcome { IfSome result.fault (λ fault. StoppedBefore D.told K.tells K.written disk.old disk.new out.old out.new fault result.end)
-        ⊎ ReservedAsSaid D.told K.tells K.written (source_input S.tells S.left S.faults plan.old plan.new) (source_input S.tells S.left S.faults jobs.old jobs.new) disk.old disk.new out.old out.new result.fault result.end }
-    ensures cause { IfSome result.fault (Comes (seen_of true (source_input S.tells S.left S.faults plan.old plan.new) (source_input S.tells S.left S.faults jobs.old jobs.new)
-        (disk_input D.told (D.counts disk.old).faults (D.counts disk.new).faults disk.old) (K.faults out.old) (K.faults out.new))) }
-    ensures complete { IsDecided (decided (seen_of true (source_input S.tells S.left S.faults plan.old plan.new) (source_input S.tells S.left S.faults jobs.old jobs.new)
-        (disk_input D.told (D.counts disk.old).faults (D.counts disk.new).faults disk.old) (K.faults out.old) (K.faults out.new))) result.fault }
-{
-    let plan = match plan_from(alloc, plan) {
-        Ok(plan) => plan,
-        Err(fault) => return stopped(fault),
-    };
-    let jobs = match jobs_from(alloc, jobs, &plan) {
-        Ok(jobs) => jobs,
-        Err(fault) => return stopped(fault),
-    };
-    open_and_reserve(alloc, &plan, &jobs, out, disk)
-}
-
-/// The end of a call that stopped before its lane was opened.
-fn stopped(fault: Fault) -> LaneEnded
-    ensures fault { result.fault ≡ Some fault }
-    ensures end { result.end ≡ None }
-{
-    LaneEnded {
-        fault: Some(fault),
-        end: None,
     }
 }

@@ -1,41 +1,93 @@
-ghost use Rattle.std.specs.Prelude.{◌≡◌, ◌≤◌, [], All, length, take, OnOk};
-ghost use Rattle.disk_model.specs.Disk.{Tells};
-ghost use Rattle.gate_log.specs.Append.{IsSettled};
-ghost use Rattle.counter_journal.specs.Journal.{journal_octets};
-ghost use Rattle.counter_journal.specs.Causes.{JournalCause};
-ghost use Rattle.ota_commands.specs.Session.{IsShort};
-ghost use Rattle.ota_commands.specs.Exit.{HasAdded};
+//! The command `reserve`.
 
-use counter_journal::{JournalErr, NarrowJournal};
+ghost use Rattle.std.specs.Prelude.{◌≡◌, ◌<◌, ◌≤◌, length, None};
+ghost use Rattle.lane_session.specs.Lanes.{AreReady};
+ghost use Rattle.ota_commands.specs.Inputs.{source_input, AreRows};
+ghost use Rattle.ota_commands.specs.Command.{NoneEnded, HasAdded, HasRunOn, HasRunReserve};
+
+use crate::ends::{difference, fault_of_opening, first_end, set_ends};
+use crate::faults::Fault;
+use crate::inputs::{jobs_from, plan_from};
+use crate::writing::{answer_of, write_report};
 use disk_model::DiskCalls;
-use ota_core::Entry;
+use lane_session::{Lane, add_for_rows, open_lanes};
+use ota_core::Job;
+use ota_io::{Sink, Source};
+use plan_reader::Plan;
 use std::alloc::Global;
 
-/// Adds entries to an empty journal, each in a batch of its own, up to the first that can't be added.
-/// Gives how many were added, and why no more.
-pub fn add_all<D: DiskCalls>(
+/// Reads the plan and the jobs, opens the journals, reserves a counter for each job, each durably before the next, and
+/// writes the report.
+pub fn reserve<S: Source, K: Sink, T: DiskCalls>(
     alloc: Global,
-    disk: &mut D,
-    journal: NarrowJournal,
-    entries: &[Entry],
-) -> (usize, Result<(), JournalErr>)
-    requires empty { Tells D.told disk.old → D.told.seen disk.old ≡ journal_octets [] }
-    requires settled { Tells D.told disk.old → IsSettled D.told disk.old 11 }
-    requires length { journal ≡ 11 }
-    requires few { length entries.now ≤ 1000 }
-    requires short { All IsShort entries.now }
-    ensures within { result.0 ≤ length entries.now }
-    ensures all { OnOk result.1 (result.0 ≡ length entries.now) }
-    ensures added { Tells D.told disk.old → HasAdded D.told disk.old disk.new entries.now (take result.0 entries.now) result.1 }
-    ensures tells { D.told.tells disk.new ≡ D.told.tells disk.old }
-    ensures cause { JournalCause (D.counts disk.old) (D.counts disk.new) result.1 }
+    plan: &mut S,
+    jobs: &mut S,
+    out: &mut K,
+    sites: &mut [T],
+    ends: &mut [Option<Fault>],
+) -> Option<Fault>
+    requires some { 1 ≤ length sites.old }
+    requires few { length sites.old ≤ 64 }
+    requires not_ended { NoneEnded sites.old ends.old }
+    ensures { HasRunReserve T.told T.counts K.tells K.written K.faults (source_input S.tells S.left S.faults plan.old plan.new) (source_input S.tells S.left S.faults jobs.old jobs.new)
+        sites.old sites.new out.old out.new result ends.new }
 {
-    let mut journal = journal;
-    for (count, entry) in entries.iter().enumerate() {
-        match journal.add(alloc, disk, entry) {
-            Ok(()) => {}
-            Err(error) => return (count, Err(error)),
-        }
+    let plan = match plan_from(alloc, plan) {
+        Ok(plan) => plan,
+        Err(fault) => return Some(fault),
+    };
+    let jobs = match jobs_from(alloc, jobs, &plan) {
+        Ok(jobs) => jobs,
+        Err(fault) => return Some(fault),
+    };
+    reserve_for(alloc, &plan, &jobs, out, sites, ends)
+}
+
+/// Opens the journals, reserves a counter for each job, and writes the report.
+fn reserve_for<K: Sink, T: DiskCalls>(
+    alloc: Global,
+    plan: &Plan,
+    jobs: &[Job],
+    out: &mut K,
+    sites: &mut [T],
+    ends: &mut [Option<Fault>],
+) -> Option<Fault>
+    requires some { 1 ≤ length sites.old }
+    requires few { length sites.old ≤ 64 }
+    requires not_ended { NoneEnded sites.old ends.old }
+    requires rows { AreRows jobs.now }
+    ensures { HasRunOn T.told T.counts K.tells K.written K.faults plan.now jobs.now sites.old sites.new out.old out.new result ends.new }
+{
+    let lanes = match open_lanes(alloc, sites) {
+        Ok(lanes) => lanes,
+        Err(error) => return Some(fault_of_opening(error)),
+    };
+    let differs = difference(&lanes, plan, jobs);
+    if differs.is_some() {
+        return differs;
     }
-    (entries.len(), Ok(()))
+    reserve_on(alloc, plan, jobs, out, sites, lanes, ends)
+}
+
+/// Reserves a counter for each job on opened lanes, and writes the report.
+fn reserve_on<K: Sink, T: DiskCalls>(
+    alloc: Global,
+    plan: &Plan,
+    jobs: &[Job],
+    out: &mut K,
+    sites: &mut [T],
+    lanes: Vec<Lane>,
+    ends: &mut [Option<Fault>],
+) -> Option<Fault>
+    requires ready { AreReady T.told T.counts sites.old lanes.items }
+    requires few { length sites.old ≤ 64 }
+    requires ends { length ends.old ≡ length sites.old }
+    requires rows { AreRows jobs.now }
+    ensures { HasAdded T.told T.counts K.tells K.written K.faults plan.now jobs.now sites.old sites.new lanes.items out.old out.new result ends.new }
+{
+    let mut lanes = lanes;
+    add_for_rows(alloc, &mut lanes, sites, plan, jobs);
+    set_ends(ends, &lanes);
+    let written = write_report(alloc, out, jobs, lanes);
+    answer_of(written, first_end(ends))
 }

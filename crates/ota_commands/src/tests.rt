@@ -1,14 +1,20 @@
-// The command `reserve` over memory: its rows, and each fault with its status.
-use crate::{Ended, Fault, Which, plain_command};
-use disk_model::MemDisk;
-use ota_core::History;
+// The commands over memory: their rows, and each fault with its status.
+use crate::{Command, Ended, Fault, Which, Words, plain_command, read_words};
+use counter_journal::Journal;
+use disk_model::{Call, Image, MemDisk, SimCalls};
+use ota_core::{CardId, Counter, KeysetId};
 use ota_io::{MemSink, MemSource};
 use plan_reader::{Column, Field, Table};
+use site_model::BareSite;
 use std::alloc::{AllocError, Global};
 use std::test::Fail;
 
 const PLAN: &str =
     "campaign = 7\n[[card]]\nnumber = 8901\n[[keyset]]\ncard = 8901\nkvn = 1\nkic = \"000102030405060708090a0b0c0d0e0f\"\nkid = \"2b7e151628aed2a6abf7158809cf4f3c\"\n";
+
+/// The same plan with another last octet of the key for the checksum.
+const OTHER_PLAN: &str =
+    "campaign = 7\n[[card]]\nnumber = 8901\n[[keyset]]\ncard = 8901\nkvn = 1\nkic = \"000102030405060708090a0b0c0d0e0f\"\nkid = \"2b7e151628aed2a6abf7158809cf4f3d\"\n";
 
 const HEADER: &str = "job,card,kvn,tar,script\n";
 
@@ -16,36 +22,103 @@ const FIRST: &str = "1,8901,1,b00010,00a40000027f1000a40000026f3a00d6000003aabbc
 
 const SECOND: &str = "2,8901,1,b00010,00a40000027f1000a40000026f3a00d6000003aabbcc\n";
 
+/// The first row with another last octet of its script.
+const FIRST_CHANGED: &str = "1,8901,1,b00010,00a40000027f1000a40000026f3a00d6000003aabbcd\n";
+
 const REPORT_HEADER: &str = "job,card,kvn,outcome,counter,note\n";
 
-const EMPTY: [u8; 11] = [
+const FIRST_RESERVED: &str = "1,8901,1,unsettled,0000000001,-\n";
+
+const SECOND_RESERVED: &str = "2,8901,1,unsettled,0000000002,-\n";
+
+const FIRST_NEW: &str = "1,8901,1,unsettled,-,new\n";
+
+/// The journal of lane 0 of 1 without entries.
+const EMPTY: &[u8] = &[
     0xA5, 0x4F, 0x54, 0x41, 0x4A, 0x01, 0x00, 0x00, 0x00, 0x01, 0x00,
 ];
 
-/// What a run is made of, and which calls of its sources, its disk and its sink fail.
+/// The journals of lanes 0 and 1 of 2, and of lanes 0 and 1 of 4, without entries.
+const FIRST_OF_TWO: &[u8] = &[
+    0xA5, 0x4F, 0x54, 0x41, 0x4A, 0x01, 0x00, 0x00, 0x00, 0x02, 0x00,
+];
+
+const SECOND_OF_TWO: &[u8] = &[
+    0xA5, 0x4F, 0x54, 0x41, 0x4A, 0x01, 0x00, 0x01, 0x00, 0x02, 0x00,
+];
+
+const FIRST_OF_FOUR: &[u8] = &[
+    0xA5, 0x4F, 0x54, 0x41, 0x4A, 0x01, 0x00, 0x00, 0x00, 0x04, 0x00,
+];
+
+const SECOND_OF_FOUR: &[u8] = &[
+    0xA5, 0x4F, 0x54, 0x41, 0x4A, 0x01, 0x00, 0x01, 0x00, 0x04, 0x00,
+];
+
+/// The journal of lane 0 of 1 with one part, of an unknown kind.
+const DAMAGED: &[u8] = &[
+    0xA5, 0x4F, 0x54, 0x41, 0x4A, 0x01, 0x00, 0x00, 0x00, 0x01, 0xA5, 0x00, 0x00, 0x00, 0x05, 0x00,
+    0x00, 0x00, 0x01, 0x09, 0x00,
+];
+
+/// The journal of lane 0 of 1 in which keyset 1 of card 8901 (22C5) is opened as the plan says, and closed.
+const CLOSED: &[u8] = &[
+    0xA5, 0x4F, 0x54, 0x41, 0x4A, 0x01, 0x00, 0x00, 0x00, 0x01, 0xA5, 0x00, 0x00, 0x00, 0x3B, 0x00,
+    0x00, 0x00, 0x37, 0x01, 0x00, 0x00, 0x00, 0x00, 0x00, 0x00, 0x00, 0x00, 0x00, 0x00, 0x22, 0xC5,
+    0x01, 0x00, 0x00, 0x00, 0x00, 0x00, 0x02, 0x01, 0x10, 0x00, 0x01, 0x02, 0x03, 0x04, 0x05, 0x06,
+    0x07, 0x08, 0x09, 0x0A, 0x0B, 0x0C, 0x0D, 0x0E, 0x0F, 0x10, 0x2B, 0x7E, 0x15, 0x16, 0x28, 0xAE,
+    0xD2, 0xA6, 0xAB, 0xF7, 0x15, 0x88, 0x09, 0xCF, 0x4F, 0x3C, 0xA5, 0x00, 0x00, 0x00, 0x12, 0x00,
+    0x00, 0x00, 0x0E, 0x05, 0x00, 0x00, 0x00, 0x00, 0x00, 0x00, 0x00, 0x00, 0x00, 0x00, 0x22, 0xC5,
+    0x01, 0x00,
+];
+
+const RESERVE: &[&str] = &[
+    "reserve", "--lanes", "1", "--store", "s", "--plan", "p", "--jobs", "j",
+];
+
+const RESERVE_ON_TWO: &[&str] = &[
+    "reserve", "--lanes", "2", "--store", "s", "--plan", "p", "--jobs", "j",
+];
+
+const RESERVE_ON_THREE: &[&str] = &[
+    "reserve", "--lanes", "3", "--store", "s", "--plan", "p", "--jobs", "j",
+];
+
+const RESERVE_ON_FOUR: &[&str] = &[
+    "reserve", "--lanes", "4", "--store", "s", "--plan", "p", "--jobs", "j",
+];
+
+const FORMAT_TWO: &[&str] = &["format", "--lanes", "2", "--store", "s"];
+
+/// What a run is made of.
 #[derive(Drop)]
 struct Setting<'a> {
     words: &'a [&'a str],
     plan: &'a str,
     jobs: &'a str,
-    disk: &'a [u8],
     room: usize,
     plan_fails: &'a [u64],
     jobs_fails: &'a [u64],
-    disk_fails: &'a [u64],
 }
 
-const WORDS: [&str; 9] = [
-    "reserve",
-    "--lanes",
-    "1",
-    "--store",
-    "store",
-    "--plan",
-    "plan.toml",
-    "--jobs",
-    "jobs.csv",
-];
+fn with<'a>(words: &'a [&'a str], jobs: &'a str) -> Setting<'a> {
+    Setting {
+        words,
+        plan: PLAN,
+        jobs,
+        room: 10_000,
+        plan_fails: &[],
+        jobs_fails: &[],
+    }
+}
+
+fn with_jobs<'a>(jobs: &'a str) -> Setting<'a> {
+    with(RESERVE, jobs)
+}
+
+fn with_words<'a>(words: &'a [&'a str]) -> Setting<'a> {
+    with(words, HEADER)
+}
 
 fn words_of(alloc: Global, words: &[&str]) -> Result<Vec<String>, AllocError> {
     let mut made = Vec::new(alloc);
@@ -53,52 +126,6 @@ fn words_of(alloc: Global, words: &[&str]) -> Result<Vec<String>, AllocError> {
         made.push(String::from_str(alloc, word)?)?;
     }
     Ok(made)
-}
-
-/// What a run came to: how it ended, what was written, and what the disk holds.
-#[derive(Drop)]
-struct Came {
-    ended: Ended<MemDisk>,
-    out: MemSink,
-}
-
-fn run(alloc: Global, setting: &Setting) -> Result<Came, Fail> {
-    let words = words_of(alloc, setting.words)?;
-    let mut plan = MemSource::new(
-        setting.plan.as_bytes().to_vec(alloc)?,
-        setting.plan_fails.to_vec(alloc)?,
-    );
-    let mut jobs = MemSource::new(
-        setting.jobs.as_bytes().to_vec(alloc)?,
-        setting.jobs_fails.to_vec(alloc)?,
-    );
-    let mut out = MemSink::new(alloc, setting.room, Vec::new(alloc)).map_err(|_| AllocError)?;
-    let disk = MemDisk::of(alloc, setting.disk).map_err(|_| AllocError)?;
-    let mut sites = Vec::new(alloc);
-    sites.push(disk.failing(setting.disk_fails.to_vec(alloc)?))?;
-    let ended = plain_command(alloc, &words, &mut plan, &mut jobs, &mut out, sites);
-    Ok(Came { ended, out })
-}
-
-/// Whether a run ended with this fault, having written this text and left so many octets on the disk.
-fn came_to(
-    alloc: Global,
-    setting: &Setting,
-    fault: Option<Fault>,
-    text: &str,
-    len: usize,
-) -> Result<bool, Fail> {
-    let came = run(alloc, setting)?;
-    let held = match came.ended.sites.first() {
-        Some(disk) => disk.content().len() == len,
-        None => false,
-    };
-    let status = match &fault {
-        None => 0,
-        Some(fault) => fault.status(),
-    };
-    let written = came.out.content() == text.as_bytes();
-    Ok(came.ended.fault == fault && came.ended.status == status && written && held)
 }
 
 fn text_of(alloc: Global, parts: &[&str]) -> Result<String, AllocError> {
@@ -109,25 +136,86 @@ fn text_of(alloc: Global, parts: &[&str]) -> Result<String, AllocError> {
     Ok(text)
 }
 
-fn orderly<'a>(jobs: &'a str) -> Setting<'a> {
-    Setting {
-        words: &WORDS,
-        plan: PLAN,
-        jobs,
-        disk: &EMPTY,
-        room: 10_000,
-        plan_fails: &[],
-        jobs_fails: &[],
-        disk_fails: &[],
+/// A site on a disk in memory with these octets.
+fn site(alloc: Global, octets: &[u8]) -> Result<BareSite<MemDisk>, Fail> {
+    Ok(BareSite::new(alloc, MemDisk::of(alloc, octets)?))
+}
+
+/// Sites on disks with these octets.
+fn sites(alloc: Global, disks: &[&[u8]]) -> Result<Vec<BareSite<MemDisk>>, Fail> {
+    let mut made = Vec::new(alloc);
+    for octets in disks {
+        made.push(site(alloc, octets)?)?;
     }
+    Ok(made)
+}
+
+/// What a run came to: how it ended, and what was written.
+#[derive(Drop)]
+struct Came {
+    ended: Ended<BareSite<MemDisk>>,
+    out: MemSink,
+}
+
+fn run(alloc: Global, setting: &Setting, sites: Vec<BareSite<MemDisk>>) -> Result<Came, Fail> {
+    let words = words_of(alloc, setting.words)?;
+    let mut plan = MemSource::new(
+        setting.plan.as_bytes().to_vec(alloc)?,
+        setting.plan_fails.to_vec(alloc)?,
+    );
+    let mut jobs = MemSource::new(
+        setting.jobs.as_bytes().to_vec(alloc)?,
+        setting.jobs_fails.to_vec(alloc)?,
+    );
+    let mut out = MemSink::new(alloc, setting.room, Vec::new(alloc)).map_err(|_| AllocError)?;
+    let ended = plain_command(alloc, &words, &mut plan, &mut jobs, &mut out, sites);
+    Ok(Came { ended, out })
+}
+
+/// The sites that a run left.
+fn sites_of(came: Came) -> Vec<BareSite<MemDisk>> {
+    let ended = came.ended;
+    ended.sites
+}
+
+/// Whether a run ended with this fault, having written this text.
+fn is_end(came: &Came, fault: Option<Fault>, text: &str) -> bool {
+    let status = match &fault {
+        None => 0,
+        Some(fault) => fault.status(),
+    };
+    came.ended.fault == fault
+        && came.ended.status == status
+        && came.out.content() == text.as_bytes()
+}
+
+/// The octets of the disk of this lane.
+fn content(came: &Came, lane: usize) -> &[u8] {
+    match came.ended.sites.get(lane) {
+        Some(site) => site.disk().content(),
+        None => &[],
+    }
+}
+
+/// Whether a run on one lane ended so, and left so many octets on its disk.
+fn came_to(
+    alloc: Global,
+    setting: &Setting,
+    octets: &[u8],
+    fault: Option<Fault>,
+    text: &str,
+    len: usize,
+) -> Result<bool, Fail> {
+    let came = run(alloc, setting, sites(alloc, &[octets])?)?;
+    Ok(is_end(&came, fault, text) && content(&came, 0).len() == len)
 }
 
 #[test]
 fn a_row_is_reserved(rt: HostRuntime) -> Result<(), Fail> {
     let alloc = rt.alloc();
     let jobs = text_of(alloc, &[HEADER, FIRST])?;
-    let report = text_of(alloc, &[REPORT_HEADER, "1,8901,1,unsettled,0000000001,-\n"])?;
-    assert!(rt; came_to(alloc, &orderly(&jobs), None, &report, 136)?);
+    let report = text_of(alloc, &[REPORT_HEADER, FIRST_RESERVED])?;
+    assert!(rt; came_to(alloc, &with_jobs(&jobs), EMPTY, None, &report, 136)?);
     Ok(())
 }
 
@@ -135,118 +223,314 @@ fn a_row_is_reserved(rt: HostRuntime) -> Result<(), Fail> {
 fn rows_get_counters_in_order(rt: HostRuntime) -> Result<(), Fail> {
     let alloc = rt.alloc();
     let jobs = text_of(alloc, &[HEADER, FIRST, SECOND])?;
-    let report = text_of(
-        alloc,
-        &[
-            REPORT_HEADER,
-            "1,8901,1,unsettled,0000000001,-\n",
-            "2,8901,1,unsettled,0000000002,-\n",
-        ],
-    )?;
-    assert!(rt; came_to(alloc, &orderly(&jobs), None, &report, 197)?);
+    let report = text_of(alloc, &[REPORT_HEADER, FIRST_RESERVED, SECOND_RESERVED])?;
+    assert!(rt; came_to(alloc, &with_jobs(&jobs), EMPTY, None, &report, 197)?);
     Ok(())
 }
 
 #[test]
 fn without_rows_nothing_is_added(rt: HostRuntime) -> Result<(), Fail> {
     let alloc = rt.alloc();
-    assert!(rt; came_to(alloc, &orderly(HEADER), None, REPORT_HEADER, 11)?);
+    assert!(rt; came_to(alloc, &with_jobs(HEADER), EMPTY, None, REPORT_HEADER, 11)?);
     Ok(())
 }
 
 #[test]
-fn each_device_call_that_fails_is_a_site_fault(rt: HostRuntime) -> Result<(), Fail> {
+fn a_reserved_row_is_reserved_once(rt: HostRuntime) -> Result<(), Fail> {
+    let alloc = rt.alloc();
+    let first = text_of(alloc, &[HEADER, FIRST])?;
+    let both = text_of(alloc, &[HEADER, FIRST, SECOND])?;
+    let report = text_of(alloc, &[REPORT_HEADER, FIRST_RESERVED, SECOND_RESERVED])?;
+    let before = run(alloc, &with_jobs(&first), sites(alloc, &[EMPTY])?)?;
+    let came = run(alloc, &with_jobs(&both), sites_of(before))?;
+    assert!(rt; is_end(&came, None, &report));
+    assert_eq!(rt; content(&came, 0).len(), 197);
+    Ok(())
+}
+
+#[test]
+fn a_closed_keyset_gives_no_counter(rt: HostRuntime) -> Result<(), Fail> {
     let alloc = rt.alloc();
     let jobs = text_of(alloc, &[HEADER, FIRST])?;
-    let new = text_of(alloc, &[REPORT_HEADER, "1,8901,1,unsettled,-,new\n"])?;
-    let open = text_of(alloc, &[REPORT_HEADER, "1,8901,1,unsettled,-,-\n"])?;
+    let report = text_of(alloc, &[REPORT_HEADER, "1,8901,1,unsettled,-,closed\n"])?;
+    assert!(rt; came_to(alloc, &with_jobs(&jobs), CLOSED, None, &report, 98)?);
+    Ok(())
+}
 
-    // Two calls open the journal, four add the Open, and four the reservation.
-    let cases: [(u64, &str, usize); 10] = [
-        (1, "", 11),
-        (2, "", 11),
-        (3, &new, 11),
-        (4, &new, 75),
-        (5, &new, 75),
-        (6, &new, 75),
-        (7, &open, 75),
-        (8, &open, 136),
-        (9, &open, 136),
-        (10, &open, 136),
-    ];
-    for (call, text, len) in cases {
-        let listed = [call];
-        let mut failing = orderly(&jobs);
-        failing.disk_fails = &listed;
-        assert!(rt;
-            came_to(alloc, &failing, Some(Fault::SiteFault(0)), text, len)?,
-            "call {call}"
-        );
+#[test]
+fn a_row_that_differs_from_its_reservation_is_refused(rt: HostRuntime) -> Result<(), Fail> {
+    let alloc = rt.alloc();
+    let jobs = text_of(alloc, &[HEADER, FIRST])?;
+    let changed = text_of(alloc, &[HEADER, FIRST_CHANGED])?;
+    let before = run(alloc, &with_jobs(&jobs), sites(alloc, &[EMPTY])?)?;
+    let came = run(alloc, &with_jobs(&changed), sites_of(before))?;
+    assert!(rt; is_end(&came, Some(Fault::JobDiffers(1, Counter(1))), ""));
+    assert_eq!(rt; came.ended.status, 14);
+    assert_eq!(rt; content(&came, 0).len(), 136);
+    Ok(())
+}
+
+#[test]
+fn a_keyset_with_other_facts_is_refused(rt: HostRuntime) -> Result<(), Fail> {
+    let alloc = rt.alloc();
+    let jobs = text_of(alloc, &[HEADER, FIRST])?;
+    let keyset = KeysetId {
+        card: CardId(8901),
+        kvn: 1,
+    };
+    let mut other = with_jobs(HEADER);
+    other.plan = OTHER_PLAN;
+    let before = run(alloc, &with_jobs(&jobs), sites(alloc, &[EMPTY])?)?;
+    let came = run(alloc, &other, sites_of(before))?;
+    assert!(rt; is_end(&came, Some(Fault::KeysetDiffers(keyset)), ""));
+    assert_eq!(rt; came.ended.status, 15);
+    Ok(())
+}
+
+#[test]
+fn a_lane_that_fails_stops_alone(rt: HostRuntime) -> Result<(), Fail> {
+    let alloc = rt.alloc();
+    let jobs = text_of(alloc, &[HEADER, FIRST])?;
+    let report = text_of(alloc, &[REPORT_HEADER, FIRST_NEW])?;
+    let setting = with(RESERVE_ON_TWO, &jobs);
+    let calls = calls_of_two(alloc, &setting)?;
+    let disk = MemDisk::of(alloc, SECOND_OF_TWO)?.failing(vec![in alloc; second_sync(&calls)]?);
+    let first = site(alloc, FIRST_OF_TWO)?;
+    let second = BareSite::new(alloc, disk);
+    let came = run(alloc, &setting, vec![in alloc; first, second]?)?;
+    assert!(rt; is_end(&came, Some(Fault::SiteFault(1)), &report));
+    assert_eq!(rt;
+        came.ended.ends.as_slice(),
+        [None, Some(Fault::SiteFault(1))].as_slice()
+    );
+    assert_eq!(rt; content(&came, 0), FIRST_OF_TWO);
+    Ok(())
+}
+
+/// The calls of the disk of the second lane in a run in which none fails.
+fn calls_of_two(alloc: Global, setting: &Setting) -> Result<Vec<Call>, Fail> {
+    let came = run(
+        alloc,
+        setting,
+        sites(alloc, &[FIRST_OF_TWO, SECOND_OF_TWO])?,
+    )?;
+    match came.ended.sites.get(1) {
+        Some(site) => Ok(site.disk().calls().to_vec(alloc)?),
+        None => Ok(Vec::new(alloc)),
+    }
+}
+
+/// The number, from 1, of the second call that is a sync, and 0 where there is none.
+fn second_sync(calls: &[Call]) -> u64 {
+    let mut is_second = false;
+    for (place, call) in calls.iter().enumerate() {
+        if *call == Call::Sync {
+            if is_second {
+                return place as u64 + 1;
+            }
+            is_second = true;
+        }
+    }
+    0
+}
+
+/// A run on a disk of which this call, from 1, fails and leaves this image; and then a run on what is left.
+fn stopped_and_run_again(
+    alloc: Global,
+    setting: &Setting,
+    call: u32,
+    image: Image,
+) -> Result<(Came, usize), Fail> {
+    let mut disk = MemDisk::of(alloc, EMPTY)?;
+    disk.arm(call, image);
+    let came = run(alloc, setting, vec![in alloc; BareSite::new(alloc, disk)]?)?;
+    let left = content(&came, 0);
+    let mut disk = MemDisk::of(alloc, left)?;
+    let entries = match Journal::open(alloc, &mut disk, 0, 1) {
+        Ok(journal) => journal.history().entries().len(),
+        Err(_) => return Err(Fail::from("each image opens")),
+    };
+    let again = run(alloc, setting, sites(alloc, &[left])?)?;
+    Ok((again, entries))
+}
+
+/// The number of calls that the disk of a run has when none fails.
+fn number_of_calls(alloc: Global, setting: &Setting) -> Result<u32, Fail> {
+    let came = run(alloc, setting, sites(alloc, &[EMPTY])?)?;
+    let mut number: u32 = 0;
+    if let Some(site) = came.ended.sites.first() {
+        for _call in site.disk().calls() {
+            number = number.saturating_add(1);
+        }
+    }
+    Ok(number)
+}
+
+#[test]
+fn a_stop_at_the_last_call_of_a_reservation_keeps_it_or_not(rt: HostRuntime) -> Result<(), Fail> {
+    let alloc = rt.alloc();
+    let jobs = text_of(alloc, &[HEADER, FIRST])?;
+    let report = text_of(alloc, &[REPORT_HEADER, FIRST_RESERVED])?;
+    let setting = with_jobs(&jobs);
+    let last = number_of_calls(alloc, &setting)?;
+    let cases: [(Image, usize); 3] = [(Image::Old, 1), (Image::New, 2), (Image::Torn, 1)];
+    for (image, held) in cases {
+        let (again, entries) = stopped_and_run_again(alloc, &setting, last, image)?;
+        assert_eq!(rt; entries, held);
+        assert!(rt; is_end(&again, None, &report));
+        assert_eq!(rt; content(&again, 0).len(), 136);
     }
     Ok(())
 }
 
-fn with_words<'a>(words: &'a [&'a str]) -> Setting<'a> {
-    Setting {
-        words,
-        plan: PLAN,
-        jobs: HEADER,
-        disk: &EMPTY,
-        room: 10_000,
-        plan_fails: &[],
-        jobs_fails: &[],
-        disk_fails: &[],
+#[test]
+fn a_stop_at_each_call_leaves_what_the_next_run_ends(rt: HostRuntime) -> Result<(), Fail> {
+    let alloc = rt.alloc();
+    let jobs = text_of(alloc, &[HEADER, FIRST])?;
+    let report = text_of(alloc, &[REPORT_HEADER, FIRST_RESERVED])?;
+    let setting = with_jobs(&jobs);
+    let last = number_of_calls(alloc, &setting)?;
+    for calls_before in 0..last {
+        let call = calls_before.saturating_add(1);
+        for image in [Image::Old, Image::New, Image::Torn] {
+            let (again, _) = stopped_and_run_again(alloc, &setting, call, image)?;
+            assert!(rt; is_end(&again, None, &report), "call {call}");
+            assert_eq!(rt; content(&again, 0).len(), 136);
+        }
     }
+    Ok(())
+}
+
+#[test]
+fn journals_are_made(rt: HostRuntime) -> Result<(), Fail> {
+    let alloc = rt.alloc();
+    let setting = with_words(FORMAT_TWO);
+    let came = run(alloc, &setting, sites(alloc, &[&[], &[0x00, 0x4F]])?)?;
+    assert!(rt; is_end(&came, None, "formatted 2\n"));
+    assert_eq!(rt; content(&came, 0), FIRST_OF_TWO);
+    assert_eq!(rt; content(&came, 1), SECOND_OF_TWO);
+    let again = run(alloc, &setting, sites_of(came))?;
+    assert!(rt; is_end(&again, None, "formatted 2\n"));
+    assert_eq!(rt; content(&again, 1), SECOND_OF_TWO);
+    Ok(())
+}
+
+#[test]
+fn another_journal_is_not_made_anew(rt: HostRuntime) -> Result<(), Fail> {
+    let alloc = rt.alloc();
+    let setting = with_words(FORMAT_TWO);
+    let came = run(alloc, &setting, sites(alloc, &[&[], FIRST_OF_FOUR])?)?;
+    assert!(rt; is_end(&came, Some(Fault::WrongLane(1, 0, 4)), ""));
+    assert_eq!(rt; content(&came, 0), FIRST_OF_TWO);
+    assert_eq!(rt; content(&came, 1), FIRST_OF_FOUR);
+    Ok(())
+}
+
+#[test]
+fn journals_that_do_not_open_are_refused(rt: HostRuntime) -> Result<(), Fail> {
+    let alloc = rt.alloc();
+    let three = with_words(RESERVE_ON_THREE);
+    let came = run(
+        alloc,
+        &three,
+        sites(alloc, &[FIRST_OF_FOUR, SECOND_OF_FOUR, &[]])?,
+    )?;
+    assert!(rt; is_end(&came, Some(Fault::WrongLane(0, 0, 4)), ""));
+    assert_eq!(rt; came.ended.status, 23);
+    let four = with_words(RESERVE_ON_FOUR);
+    let came = run(
+        alloc,
+        &four,
+        sites(alloc, &[SECOND_OF_FOUR, FIRST_OF_FOUR, &[], &[]])?,
+    )?;
+    assert!(rt; is_end(&came, Some(Fault::WrongLane(0, 1, 4)), ""));
+    let one = with_jobs(HEADER);
+    assert!(rt; came_to(alloc, &one, &[], Some(Fault::Unformatted(0)), "", 0)?);
+    assert!(rt; came_to(alloc, &one, DAMAGED, Some(Fault::Damaged(0, 1)), "", 21)?);
+    let other = [
+        0x5A, 0x4F, 0x54, 0x41, 0x4A, 0x01, 0x00, 0x00, 0x00, 0x01, 0x00, 0x00,
+    ];
+    assert!(rt; came_to(alloc, &one, &other, Some(Fault::NotAJournal(0)), "", 12)?);
+    Ok(())
 }
 
 #[test]
 fn other_words_are_refused(rt: HostRuntime) -> Result<(), Fail> {
     let alloc = rt.alloc();
     let none: [&str; 0] = [];
-    assert!(rt; came_to(alloc, &with_words(&none), Some(Fault::Usage), "", 11)?);
-    let two_lanes = [
-        "reserve", "--lanes", "2", "--store", "s", "--plan", "p", "--jobs", "j",
-    ];
-    assert!(rt; came_to(alloc, &with_words(&two_lanes), Some(Fault::Usage), "", 11)?);
-    let no_path = [
-        "reserve", "--lanes", "1", "--store", "", "--plan", "p", "--jobs", "j",
-    ];
-    assert!(rt; came_to(alloc, &with_words(&no_path), Some(Fault::Usage), "", 11)?);
+    assert!(rt; came_to(alloc, &with_words(&none), EMPTY, Some(Fault::Usage), "", 11)?);
+    assert!(rt;
+        came_to(
+            alloc,
+            &with_words(RESERVE_ON_TWO),
+            EMPTY,
+            Some(Fault::Usage),
+            "",
+            11
+        )?
+    );
+    let no_path = ["format", "--lanes", "1", "--store", ""];
+    assert!(rt;
+        came_to(
+            alloc,
+            &with_words(&no_path),
+            EMPTY,
+            Some(Fault::Usage),
+            "",
+            11
+        )?
+    );
     let an_option = [
         "reserve", "--lanes", "1", "--store", "--plan", "--plan", "p", "--jobs", "j",
     ];
-    assert!(rt; came_to(alloc, &with_words(&an_option), Some(Fault::Usage), "", 11)?);
+    assert!(rt;
+        came_to(
+            alloc,
+            &with_words(&an_option),
+            EMPTY,
+            Some(Fault::Usage),
+            "",
+            11
+        )?
+    );
+    Ok(())
+}
+
+#[test]
+fn words_say_their_command_and_lanes(rt: HostRuntime) -> Result<(), Fail> {
+    let alloc = rt.alloc();
+    let cases: [(&str, Option<u16>); 6] = [
+        ("0", None),
+        ("1", Some(1)),
+        ("064", Some(64)),
+        ("65", None),
+        ("+4", None),
+        ("", None),
+    ];
+    for (count, lanes) in cases {
+        let words = words_of(alloc, &["format", "--lanes", count, "--store", "s"])?;
+        let said = match lanes {
+            None => None,
+            Some(lanes) => Some(Words {
+                command: Command::Format,
+                lanes,
+            }),
+        };
+        assert!(rt; read_words(&words) == said, "{count}");
+    }
     Ok(())
 }
 
 #[test]
 fn inputs_without_a_reading_are_refused(rt: HostRuntime) -> Result<(), Fail> {
     let alloc = rt.alloc();
-    let mut no_plan = orderly(HEADER);
+    let mut no_plan = with_jobs(HEADER);
     no_plan.plan = "";
-    assert!(rt;
-        came_to(
-            alloc,
-            &no_plan,
-            Some(Fault::PlanRefused(Table::Top, 0, Field::Text)),
-            "",
-            11
-        )?
-    );
+    let fault = Fault::PlanRefused(Table::Top, 0, Field::Text);
+    assert!(rt; came_to(alloc, &no_plan, EMPTY, Some(fault), "", 11)?);
     let twice = text_of(alloc, &[HEADER, FIRST, FIRST])?;
-    assert!(rt;
-        came_to(
-            alloc,
-            &orderly(&twice),
-            Some(Fault::JobsRefused(0, Column::Header)),
-            "",
-            11
-        )?
-    );
-    let no_head: [u8; 10] = [0xA5, 0x4F, 0x54, 0x41, 0x4A, 0x01, 0x00, 0x00, 0x00, 0x01];
-    let mut other_disk = orderly(HEADER);
-    other_disk.disk = &no_head;
-    assert!(rt; came_to(alloc, &other_disk, Some(Fault::NotAJournal(0)), "", 10)?);
+    let fault = Fault::JobsRefused(0, Column::Header);
+    assert!(rt; came_to(alloc, &with_jobs(&twice), EMPTY, Some(fault), "", 11)?);
     Ok(())
 }
 
@@ -254,51 +538,45 @@ fn inputs_without_a_reading_are_refused(rt: HostRuntime) -> Result<(), Fail> {
 fn a_source_that_fails_is_named(rt: HostRuntime) -> Result<(), Fail> {
     let alloc = rt.alloc();
     let first = [1];
-    let mut deaf_plan = orderly(HEADER);
+    let mut deaf_plan = with_jobs(HEADER);
     deaf_plan.plan_fails = &first;
-    assert!(rt;
-        came_to(
-            alloc,
-            &deaf_plan,
-            Some(Fault::SourceFault(Which::Plan)),
-            "",
-            11
-        )?
-    );
+    let fault = Fault::SourceFault(Which::Plan);
+    assert!(rt; came_to(alloc, &deaf_plan, EMPTY, Some(fault), "", 11)?);
     let second = [2];
-    let mut deaf_jobs = orderly(HEADER);
+    let mut deaf_jobs = with_jobs(HEADER);
     deaf_jobs.jobs_fails = &second;
-    assert!(rt;
-        came_to(
-            alloc,
-            &deaf_jobs,
-            Some(Fault::SourceFault(Which::Jobs)),
-            "",
-            11
-        )?
-    );
+    let fault = Fault::SourceFault(Which::Jobs);
+    assert!(rt; came_to(alloc, &deaf_jobs, EMPTY, Some(fault), "", 11)?);
     Ok(())
 }
 
 #[test]
-fn a_full_sink_has_the_front_of_the_report(rt: HostRuntime) -> Result<(), Fail> {
+fn a_full_sink_has_the_front_of_the_text(rt: HostRuntime) -> Result<(), Fail> {
     let alloc = rt.alloc();
     let jobs = text_of(alloc, &[HEADER, FIRST])?;
-    let mut small = orderly(&jobs);
+    let mut small = with_jobs(&jobs);
     small.room = 10;
-    assert!(rt; came_to(alloc, &small, Some(Fault::SinkFault), "job,card,k", 136)?);
+    assert!(rt;
+        came_to(
+            alloc,
+            &small,
+            EMPTY,
+            Some(Fault::SinkFault),
+            "job,card,k",
+            136
+        )?
+    );
     Ok(())
 }
 
 #[test]
 fn an_input_has_at_most_its_greatest_length(rt: HostRuntime) -> Result<(), Fail> {
     let alloc = rt.alloc();
-    let words = words_of(alloc, &WORDS)?;
+    let words = words_of(alloc, RESERVE)?;
     let mut plan = MemSource::new(vec![in alloc; b'a'; 8_388_609]?, Vec::new(alloc));
     let mut jobs = MemSource::new(Vec::new(alloc), Vec::new(alloc));
     let mut out = MemSink::new(alloc, 0, Vec::new(alloc)).map_err(|_| AllocError)?;
-    let mut sites = Vec::new(alloc);
-    sites.push(MemDisk::of(alloc, &EMPTY).map_err(|_| AllocError)?)?;
+    let sites = sites(alloc, &[EMPTY])?;
     let ended = plain_command(alloc, &words, &mut plan, &mut jobs, &mut out, sites);
     assert!(rt; ended.fault == Some(Fault::InputTooLong(Which::Plan)));
     assert!(rt; ended.status == 13);
@@ -308,21 +586,8 @@ fn an_input_has_at_most_its_greatest_length(rt: HostRuntime) -> Result<(), Fail>
 #[test]
 fn another_number_of_sites_is_refused(rt: HostRuntime) -> Result<(), Fail> {
     let alloc = rt.alloc();
-    let words = words_of(alloc, &WORDS)?;
-    let mut plan = MemSource::new(Vec::new(alloc), Vec::new(alloc));
-    let mut jobs = MemSource::new(Vec::new(alloc), Vec::new(alloc));
-    let mut out = MemSink::new(alloc, 0, Vec::new(alloc)).map_err(|_| AllocError)?;
-    let sites: Vec<MemDisk> = Vec::new(alloc);
-    let ended = plain_command(alloc, &words, &mut plan, &mut jobs, &mut out, sites);
-    assert!(rt; ended.fault == Some(Fault::Usage));
-    assert!(rt; ended.ends.is_empty());
-    Ok(())
-}
-
-#[test]
-fn a_history_makes_room(rt: HostRuntime) -> Result<(), Fail> {
-    let mut history = History::new(rt.alloc());
-    assert!(rt; history.reserve(100).is_ok());
-    assert!(rt; history.entries().is_empty());
+    let came = run(alloc, &with_jobs(HEADER), Vec::new(alloc))?;
+    assert!(rt; is_end(&came, Some(Fault::Usage), ""));
+    assert!(rt; came.ended.ends.is_empty());
     Ok(())
 }

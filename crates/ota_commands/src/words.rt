@@ -1,12 +1,47 @@
-ghost use Rattle.std.specs.Prelude.{◌≡◌, ◌&&◌, map, string_bytes};
-ghost use Rattle.std.specs.Str.{bytes_eq};
-ghost use Rattle.ota_commands.specs.Words.{is_reserve, is_one_lane, is_option, is_path};
+//! The words of the commands.
 
-/// Whether these are the words of `reserve`: `reserve --lanes 1 --store PATH --plan PATH --jobs PATH`, in that order.
-pub fn is_reserve(words: &[String]) -> bool
-    ensures { result ≡ is_reserve (map string_bytes words.now) }
+ghost use Rattle.std.specs.Prelude.{◌≡◌, ◌&&◌, ◌≤◌, map, string_bytes, IfSome};
+ghost use Rattle.std.specs.Str.{bytes_eq};
+ghost use Rattle.ota_commands.specs.Words.{has_front, is_option, is_path, lanes_in, said_by, words_of, command_of, command_for};
+
+use plan_reader::number;
+
+/// The greatest number of lanes.
+const MOST_LANES: u64 = 64;
+
+/// The greatest number of digits in a number.
+const NUMBER_WIDTH: usize = 18;
+
+/// A command that sends nothing.
+#[derive(Clone, Copy, Debug, PartialEq, Eq)]
+pub enum Command {
+    /// Makes the journals.
+    Format,
+    /// Reserves a counter for each job.
+    Reserve,
+}
+
+/// What the words of a command say. Its paths are for the program alone.
+#[derive(Clone, Copy, Debug, PartialEq, Eq)]
+pub struct Words {
+    pub command: Command,
+    /// The number of lanes, 1 to 64.
+    pub lanes: u16,
+}
+
+/// What the words say: `format --lanes N --store PATH`, or `reserve --lanes N --store PATH --plan PATH --jobs PATH`, in that
+/// order. None where they are no such words.
+pub fn read_words(words: &[String]) -> Option<Words>
+    ensures said { result ≡ words_of (map string_bytes words.now) }
+    ensures some { IfSome result (λ said. 1 ≤ said.lanes) }
+    ensures few { IfSome result (λ said. said.lanes ≤ 64) }
 {
     match words {
+        [command, lanes, count, store, path] => {
+            let has_front = has_front(command, "format", lanes);
+            let has_store = is_option(store, "--store", path);
+            said_by(Command::Format, are_both(has_front, has_store), count)
+        }
         [
             command,
             lanes,
@@ -18,28 +53,90 @@ pub fn is_reserve(words: &[String]) -> bool
             jobs,
             jobs_path,
         ] => {
-            let has_lane = is_one_lane(command, lanes, count);
+            let has_front = has_front(command, "reserve", lanes);
             let has_store = is_option(store, "--store", store_path);
             let has_plan = is_option(plan, "--plan", plan_path);
             let has_jobs = is_option(jobs, "--jobs", jobs_path);
-            hold_all(has_lane, has_store, has_plan, has_jobs)
+            said_by(
+                Command::Reserve,
+                are_all(has_front, has_store, has_plan, has_jobs),
+                count,
+            )
         }
-        _ => false,
+        _ => None,
     }
 }
 
-fn hold_all(a: bool, b: bool, c: bool, d: bool) -> bool
+/// The command that the words say for so many sites.
+pub fn command_for(words: &[String], sites: usize) -> Option<Command>
+    ensures command { result ≡ command_for (map string_bytes words.now) sites }
+    ensures some { IfSome result (λ command. 1 ≤ sites) }
+    ensures few { IfSome result (λ command. sites ≤ 64) }
+{
+    match read_words(words) {
+        None => None,
+        Some(said) => command_of(said, sites),
+    }
+}
+
+fn command_of(said: Words, sites: usize) -> Option<Command>
+    requires some { 1 ≤ said.lanes }
+    requires few { said.lanes ≤ 64 }
+    ensures command { result ≡ command_of sites said }
+    ensures some { IfSome result (λ command. 1 ≤ sites) }
+    ensures few { IfSome result (λ command. sites ≤ 64) }
+{
+    if usize::from(said.lanes) == sites {
+        Some(said.command)
+    } else {
+        None
+    }
+}
+
+fn said_by(command: Command, are: bool, count: &String) -> Option<Words>
+    ensures said { result ≡ said_by command are (string_bytes count.now) }
+    ensures some { IfSome result (λ said. 1 ≤ said.lanes) }
+    ensures few { IfSome result (λ said. said.lanes ≤ 64) }
+{
+    if !are {
+        return None;
+    }
+    match lanes_in(count) {
+        None => None,
+        Some(lanes) => Some(Words { command, lanes }),
+    }
+}
+
+/// The number of lanes that a word says.
+fn lanes_in(digits: &String) -> Option<u16>
+    ensures lanes { result ≡ lanes_in (string_bytes digits.now) }
+    ensures some { IfSome result (λ lanes. 1 ≤ lanes) }
+    ensures few { IfSome result (λ lanes. lanes ≤ 64) }
+{
+    match number(digits.as_bytes(), NUMBER_WIDTH, MOST_LANES) {
+        None => None,
+        Some(lanes) => { if lanes >= 1 { Some(lanes as u16) } else { None } }
+    }
+}
+
+fn are_both(a: bool, b: bool) -> bool
+    ensures { result ≡ (a && b) }
+{
+    a && b
+}
+
+fn are_all(a: bool, b: bool, c: bool, d: bool) -> bool
     ensures { result ≡ (a && b && c && d) }
 {
     a && b && c && d
 }
 
-/// Whether these are the first words of `reserve` on one lane.
-#[tactic(auto, unfolding(crate::specs::Words::is_one_lane))]
-fn is_one_lane(command: &String, lanes: &String, count: &String) -> bool
-    ensures { result ≡ is_one_lane (string_bytes command.now) (string_bytes lanes.now) (string_bytes count.now) }
+/// Whether these are the name of a command and the option of the number of lanes.
+#[tactic(auto, unfolding(crate::specs::Words::has_front))]
+fn has_front(command: &String, name: &str, lanes: &String) -> bool
+    ensures { result ≡ has_front name.now (string_bytes command.now) (string_bytes lanes.now) }
 {
-    is_word(command, "reserve") && is_word(lanes, "--lanes") && is_word(count, "1")
+    is_word(command, name) && is_word(lanes, "--lanes")
 }
 
 /// Whether this is the option of that name with a path.

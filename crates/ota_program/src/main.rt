@@ -7,8 +7,9 @@ mod lane_file;
 use disk_model::FileDisk;
 use input_file::InputFile;
 use lane_file::lane_file;
-use ota_commands::{Fault, is_reserve, plain_command};
+use ota_commands::{Command, Fault, plain_command, read_words};
 use ota_io::{StdSink, StdSource};
+use site_model::BareSite;
 use std::alloc::AllocError;
 use std::process::ExitCode;
 use std::{env, io};
@@ -34,11 +35,30 @@ fn run(rt: &HostRuntime) -> Result<Option<Fault>, AllocError> {
     let mut plan = StdSource::new(InputFile::open(rt, word(&words, 6)));
     let mut jobs = StdSource::new(InputFile::open(rt, word(&words, 8)));
     let mut out = StdSink::new(io::writer(rt));
-    let mut sites = Vec::new(alloc);
-    let path = lane_file(rt, word(&words, 4), is_reserve(&words))?;
-    sites.push(FileDisk::new(rt.clone()?, path).keeping_open())?;
+    let sites = sites(rt, &words)?;
     let ended = plain_command(alloc, &words, &mut plan, &mut jobs, &mut out, sites);
     Ok(ended.fault)
+}
+
+/// The sites of the lanes in a store, or none where the words aren't those of a command.
+///
+/// On one lane `reserve` makes a missing journal.
+fn sites(
+    rt: &HostRuntime,
+    words: &[String],
+) -> Result<Vec<BareSite<FileDisk<HostRuntime>>>, AllocError> {
+    let alloc = rt.alloc();
+    let mut sites = Vec::new(alloc);
+    let Some(said) = read_words(words) else {
+        return Ok(sites);
+    };
+    let make = said.command == Command::Reserve && said.lanes == 1;
+    for lane in 0..said.lanes {
+        let path = lane_file(rt, word(words, 4), lane, make)?;
+        let disk = FileDisk::new(rt.clone()?, path).keeping_open();
+        sites.push(BareSite::new(alloc, disk))?;
+    }
+    Ok(sites)
 }
 
 fn words(rt: &HostRuntime) -> Result<Vec<String>, AllocError> {
