@@ -1,2 +1,3 @@
 pub mod OutcomeText
+pub mod PacketLemmas
 pub mod Rows

@@ -1,3 +1,4 @@
 pub mod Report
 pub mod Lookup
 pub mod Note
+pub mod Packets

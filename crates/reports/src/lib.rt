@@ -1,7 +1,10 @@
-//! The texts that commands write: what has become of each job of a campaign.
+//! The texts that commands write: what has become of each job of a campaign, and the messages of those that wait for
+//! an answer.
 #![tactic(auto)]
 
 mod lookup;
+mod packets;
 mod report;
 
+pub use packets::packet_text;
 pub use report::report_text;

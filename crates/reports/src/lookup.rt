@@ -4,13 +4,13 @@ ghost use Rattle.std.specs.Option.{option_map, option_copied};
 ghost use Rattle.std.specs.List.{list_any};
 ghost use Rattle.ota_core.specs.Keyset.{is_same_keyset};
 ghost use Rattle.ota_core.specs.Job.{is_same_job};
-ghost use Rattle.ota_core.specs.Entry.{reservation_in, is_settlement_of, is_open_of, is_close_of, counter_in};
+ghost use Rattle.ota_core.specs.Entry.{reservation_in, is_settlement_of, is_open_of, is_close_of, counter_in, facts_in};
 ghost use Rattle.ota_core.specs.History.{last_reservation, first_some};
 ghost use Rattle.reports.specs.Lookup.{place_of};
 ghost use Rattle.reports.specs.Report.{note_of};
 ghost use Rattle.reports.specs.Note.{note_text};
 
-use ota_core::{Counter, Entry, JobId, KeysetId};
+use ota_core::{Counter, Entry, JobId, KeysetFacts, KeysetId};
 
 /// The last reservation for the job.
 pub fn last_reservation(entries: &[Entry], job: JobId) -> Option<(KeysetId, Counter)>
@@ -43,7 +43,7 @@ fn is_same_job(a: JobId, b: JobId) -> bool
     a.campaign == b.campaign && a.job == b.job
 }
 
-fn is_same_keyset(a: &KeysetId, b: &KeysetId) -> bool
+pub(crate) fn is_same_keyset(a: &KeysetId, b: &KeysetId) -> bool
     ensures { result ≡ is_same_keyset a.now b.now }
 {
     a.card.0 == b.card.0 && a.kvn == b.kvn
@@ -167,6 +167,32 @@ fn counter_in(entry: &Entry, keyset: &KeysetId) -> Option<u64>
             counter,
             ..
         } if is_same_keyset(reserved, keyset) => Some(counter.0),
+        _ => None,
+    }
+}
+
+/// The facts that the keyset was opened with.
+pub fn facts_of(entries: &[Entry], keyset: &KeysetId) -> Option<KeysetFacts>
+    ensures { result ≡ first_some (facts_in keyset.now) entries.now }
+{
+    for entry in entries {
+        let facts = facts_in(entry, keyset);
+        if facts.is_some() {
+            return facts;
+        }
+    }
+    None
+}
+
+fn facts_in(entry: &Entry, keyset: &KeysetId) -> Option<KeysetFacts>
+    ensures { result ≡ facts_in keyset.now entry.now }
+{
+    match entry {
+        Entry::Open {
+            keyset: opened,
+            facts,
+            ..
+        } if is_same_keyset(opened, keyset) => Some(*facts),
         _ => None,
     }
 }

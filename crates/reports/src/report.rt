@@ -33,7 +33,7 @@ fn header() -> &'static str
     "job,card,kvn,outcome,counter,note\n"
 }
 
-fn history_of<'a>(histories: &'a [History], keyset: &KeysetId) -> &'a [Entry]
+pub(crate) fn history_of<'a>(histories: &'a [History], keyset: &KeysetId) -> &'a [Entry]
     requires { 0 < length histories.now }
     ensures { result.now ≡ history_of (map entries_in histories.now) keyset.now.card }
 {
@@ -148,7 +148,7 @@ fn put_refused(text: &mut String, counter: Counter, status: u8) -> Result<(), Me
 }
 
 #[tactic(auto, unfolding(crate::specs::Report::counter_text))]
-fn put_counter(text: &mut String, counter: Counter) -> Result<(), Memory>
+pub(crate) fn put_counter(text: &mut String, counter: Counter) -> Result<(), Memory>
     ensures { OnOk result (string_bytes text.new ≡ string_bytes text.old ++ counter_text counter) }
 {
     put_hex(text, &counter.0.to_be_bytes()[3..])
@@ -164,7 +164,7 @@ fn put_answer(text: &mut String, answer: &[u8]) -> Result<(), Memory>
     put_hex(text, answer)
 }
 
-fn put_hex(text: &mut String, octets: &[u8]) -> Result<(), Memory>
+pub(crate) fn put_hex(text: &mut String, octets: &[u8]) -> Result<(), Memory>
     ensures { OnOk result (string_bytes text.new ≡ string_bytes text.old ++ encode_lower octets.now) }
 {
     let digits = hex::encode(*text.allocator(), octets)?;
