@@ -8,3 +8,6 @@ mod report;
 
 pub use packets::packet_text;
 pub use report::report_text;
+
+#[cfg(test)]
+mod tests;
