@@ -1,5 +1,5 @@
 -- Each fault of a command has its cause.
-use Rattle.std.proofs.Common.{◌≡◌, ◌⊎◌, inl, inr, ℕ, ◌<◌, Bool, Option, Some, None, IfSome, option_map, Err, List, [], ◌∷◌, length, get_or, refl, sym, ap, subst, ◌∙◌, arith}
+use Rattle.std.proofs.Common.{◌≡◌, ◌⊎◌, inl, inr, ℕ, ◌<◌, Bool, true, Option, Some, None, IfSome, option_map, Err, List, [], ◌∷◌, length, get_or, refl, sym, ap, subst, ◌∙◌, arith}
 use Rattle.std.specs.Option.{option_or}
 use Rattle.std.proofs.lemmas.List.{get_or-map, length-map}
 use Rattle.disk_model.specs.Counts.{Counts}
@@ -28,10 +28,10 @@ use Rattle.lane_session.specs.declared.opening.OpeningErr.TheVariants as opening
 use Rattle.ota_commands.specs.Inputs.{Says, ReadFaultComes, plan_reading, jobs_reading}
 use Rattle.ota_commands.specs.Ends.{fault_of_log, fault_of_opening, end_of, AreEnds, first_end}
 use Rattle.ota_commands.specs.Writing.{WriteCause, answer_of}
-use Rattle.ota_commands.specs.Command.{NoneEnded, ReadFails, HasRunFormat, HasRunOn, HasRunReserve, IsCourse}
-use Rattle.ota_commands.specs.Answers.{Seen, seen_of, AreRead, HoldBelow, IsRefused, CanStand, IsRefusedFormat, Comes}
+use Rattle.ota_commands.specs.Command.{NoneEnded, ReadFails, StopsWith, HasStopped, HasRunFormat, HasReserved, HasRunReserve, HasShown, HasRunPacket, IsCourse}
+use Rattle.ota_commands.specs.Answers.{Seen, seen_of, reads, AreRead, HoldBelow, IsRefused, CanStand, IsRefusedFormat, Comes}
 use Rattle.ota_commands.specs.declared.words.Command.{Command}
-use Rattle.ota_commands.specs.declared.words.Command.TheVariants.{Format, Reserve}
+use Rattle.ota_commands.specs.declared.words.Command.TheVariants.{Format, Reserve, Packet}
 use Rattle.ota_commands.specs.declared.writing.Written.{Written}
 use Rattle.ota_commands.specs.declared.writing.Written.TheVariants.{Whole, Part, Nothing}
 use Rattle.ota_commands.specs.declared.faults.Which.TheVariants as which
@@ -42,7 +42,7 @@ use Rattle.ota_commands.proofs.EndLaws.{IsEndAt, first_at}
 module _ {D B C : Type 0} (told : Meaning D B C) (counts : D → Counts) (seen : Seen D) where
   -- ---- the inputs
 
-  plan_cause : (fault : Fault) → seen.command ≡ Some Reserve → ReadFaultComes which.Plan plan_reading seen.plan fault → Comes told counts seen fault
+  plan_cause : (fault : Fault) → reads seen.command ≡ true → ReadFaultComes which.Plan plan_reading seen.plan fault → Comes told counts seen fault
   plan_cause (PlanRefused table row field) command comes = (command, comes)
   plan_cause (JobsRefused row column) command comes = absurd (cc comes.0)
   plan_cause (InputTooLong which.Plan) command comes = (command, comes)
@@ -52,7 +52,7 @@ module _ {D B C : Type 0} (told : Meaning D B C) (counts : D → Counts) (seen :
   plan_cause Memory command comes = tt
   plan_cause _ command comes = absurd comes
 
-  jobs_cause : (fault : Fault) (plan : Plan) → seen.command ≡ Some Reserve → Says plan_reading seen.plan plan → ReadFaultComes which.Jobs (jobs_reading plan) seen.jobs fault → Comes told counts seen fault
+  jobs_cause : (fault : Fault) (plan : Plan) → reads seen.command ≡ true → Says plan_reading seen.plan plan → ReadFaultComes which.Jobs (jobs_reading plan) seen.jobs fault → Comes told counts seen fault
   jobs_cause (JobsRefused row column) plan command said comes = record { command = command; plan = plan; plan_said = said; comes = comes }
   jobs_cause (PlanRefused table row field) plan command said comes = absurd (cc comes.0)
   jobs_cause (InputTooLong which.Jobs) plan command said comes = record { command = command; plan = plan; plan_said = said; comes = comes }
@@ -62,7 +62,7 @@ module _ {D B C : Type 0} (told : Meaning D B C) (counts : D → Counts) (seen :
   jobs_cause Memory plan command said comes = tt
   jobs_cause _ plan command said comes = absurd comes
 
-  input_cause : (fault : Fault) → seen.command ≡ Some Reserve → ReadFails seen.plan seen.jobs fault → Comes told counts seen fault
+  input_cause : (fault : Fault) → reads seen.command ≡ true → ReadFails seen.plan seen.jobs fault → Comes told counts seen fault
   input_cause fault command (inl comes) = plan_cause fault command comes
   input_cause fault command (inr comes) = jobs_cause fault comes.0 command comes.1 comes.2
 
@@ -95,15 +95,15 @@ module _ {D B C : Type 0} (told : Meaning D B C) (counts : D → Counts) (seen :
     format_cause (log_err.Full len need) command refused cause err = absurd err
 
     -- a lane stopped
-    end_cause : (error : LogErr) (journal : JournalValue) (P : List Entry → Type 0) → AreRead seen → IsStop error → Caused error → IsFullFor P journal (Some error) → Comes told counts seen (fault_of_log number error)
-    end_cause log_err.Memory journal P read stop cause full = tt
-    end_cause (log_err.DiskFault disk_fault.Failed) journal P read stop cause full = record { reaches = inr read; within = within; risen = cause }
-    end_cause (log_err.DiskFault disk_fault.Memory) journal P read stop cause full = tt
-    end_cause log_err.Unformatted journal P read stop cause full = absurd stop
-    end_cause log_err.NotALog journal P read stop cause full = absurd stop
-    end_cause (log_err.OtherHead rest) journal P read stop cause full = absurd stop
-    end_cause (log_err.Damaged place) journal P read stop cause full = absurd stop
-    end_cause (log_err.Full len need) journal P read stop cause full = record { read = read; within = within; longer = full.1 }
+    end_cause : (error : LogErr) (journal : JournalValue) (P : List Entry → Type 0) → seen.command ≡ Some Reserve → AreRead seen → IsStop error → Caused error → IsFullFor P journal (Some error) → Comes told counts seen (fault_of_log number error)
+    end_cause log_err.Memory journal P command read stop cause full = tt
+    end_cause (log_err.DiskFault disk_fault.Failed) journal P command read stop cause full = record { reaches = inr read; within = within; risen = cause }
+    end_cause (log_err.DiskFault disk_fault.Memory) journal P command read stop cause full = tt
+    end_cause log_err.Unformatted journal P command read stop cause full = absurd stop
+    end_cause log_err.NotALog journal P command read stop cause full = absurd stop
+    end_cause (log_err.OtherHead rest) journal P command read stop cause full = absurd stop
+    end_cause (log_err.Damaged place) journal P command read stop cause full = absurd stop
+    end_cause (log_err.Full len need) journal P command read stop cause full = record { command = command; read = read; within = within; longer = full.1 }
 
   -- ---- the cases of a command's course
 
@@ -171,7 +171,7 @@ module _ {D B C : Type 0} (told : Meaning D B C) (counts : D → Counts) (seen :
       some_is : (a b : Fault) → Some a ≡ Some b → a ≡ b
       some_is a b is = cc is
 
-  module _ (plan : Plan) (jobs : List Job) (opens : List D) (opened lanes : List Lane) (read : AreRead seen)
+  module _ (plan : Plan) (jobs : List Job) (opens : List D) (opened lanes : List Lane) (command : seen.command ≡ Some Reserve) (read : AreRead seen)
       (are_opened : AreOpenedBelow told counts seen.olds opens opened (length seen.olds)) (passed : ArePassed told counts plan jobs opens opened seen.news lanes) where
     -- what became of a lane
     lane_run : (k : ℕ) (old new : D) (before lane : Lane) → k < length seen.olds
@@ -195,7 +195,7 @@ module _ {D B C : Type 0} (told : Meaning D B C) (counts : D → Counts) (seen :
         let cause : EndCause (counts (get_or opens k site)) (counts (get_or seen.news k site)) (Some stop.0) =
         subst (λ (end : Option LogErr). EndCause (counts (get_or opens k site)) (counts (get_or seen.news k site)) end) stop.1 run.cause in
         subst (Comes told counts seen) (sym stop.2)
-        (end_cause k within stop.0 (get_or lanes k lane).journal _ read cause.0 (lane_caused k before lane stop.0 within stop.1)
+        (end_cause k within stop.0 (get_or lanes k lane).journal _ command read cause.0 (lane_caused k before lane stop.0 within stop.1)
         (subst (IsFullFor _ (get_or lanes k lane).journal) stop.1 run.full))
 
     one_of_each : (ends : List (Option Fault)) (fault : Fault) → AreEnds lanes ends → IsEndAt ends fault → (sites : List D) → (befores : List Lane) → (nows : List Lane) → sites ≡ seen.olds → befores ≡ opened → nows ≡ lanes
@@ -247,22 +247,47 @@ module _ {D B C K S : Type 0} (told : Meaning D B C) (counts : D → Counts) (si
   of_format is (inl refused) = caused (fault_of_opening refused.error) refused.fault_is (formatting_cause told counts seen refused.error is refused.refused)
   of_format is (inr formatted) = subst (λ (f : Option Fault). IfSome f (Comes told counts seen)) (sym formatted.fault_is) (written_format formatted.output is formatted.cause)
 
-  of_rows : (read : AreRead seen) → HasRunOn told counts sink_tells written sink_faults read.plan read.jobs olds news sink_old sink_new fault ends → Causes
-  of_rows read (inl refused) = caused (fault_of_opening refused.error) refused.fault_is (opening_cause told counts seen refused.error read refused.refused)
-  of_rows read (inr (inl differed)) =
-      caused differed.reason differed.fault_is
-      (differ_cause told counts seen read (histories_of differed.opened) (length-map differed.opened (λ (lane : Lane). lane.journal.entries) ∙ differed.are_opened.count)
-      (holds_of told counts seen differed.opened differed.are_opened)
-      (keyset_difference read.plan (histories_of differed.opened)) (job_difference read.jobs (histories_of differed.opened)) differed.reason refl refl differed.differs)
-  of_rows read (inr (inr reserved)) =
-      ends_cause told counts seen read.plan read.jobs reserved.opens reserved.opened reserved.added.lanes read reserved.are_opened reserved.added.passed ends reserved.added.output fault
-      reserved.added.ends_are reserved.added.cause reserved.added.fault_is
+  written_read : (output : Written) → AreRead seen → WriteCause (sink_faults sink_old) (sink_faults sink_new) output → IfSome (answer_of output None) (Comes told counts seen)
+  written_read Nothing read cause = tt
+  written_read Whole read cause = tt
+  written_read Part read cause = (inr read, cause)
+
+  stop_comes : (read : AreRead seen) (reason : Fault) → StopsWith told counts read.plan read.jobs olds news reason → Comes told counts seen reason
+  stop_comes read reason (inl refused) = subst (Comes told counts seen) (sym refused.reason_is) (opening_cause told counts seen refused.error read refused.refused)
+  stop_comes read reason (inr differs) =
+      differ_cause told counts seen read (histories_of differs.opened) (length-map differs.opened (λ (lane : Lane). lane.journal.entries) ∙ differs.are_opened.count)
+      (holds_of told counts seen differs.opened differs.are_opened)
+      (keyset_difference read.plan (histories_of differs.opened)) (job_difference read.jobs (histories_of differs.opened)) reason refl refl differs.differs
+
+  of_stop : (read : AreRead seen) → HasStopped told counts read.plan read.jobs olds news sink_old sink_new fault ends → Causes
+  of_stop read stopped = caused stopped.reason stopped.fault_is (stop_comes read stopped.reason stopped.stops)
 
   of_reserve : command ≡ Some Reserve → HasRunReserve told counts sink_tells written sink_faults seen.plan seen.jobs olds news sink_old sink_new fault ends → Causes
-  of_reserve is (inl failed) = caused failed.reason failed.fault_is (input_cause told counts seen failed.reason is failed.fails)
-  of_reserve is (inr read) = of_rows (record { command = is; plan = read.plan; jobs = read.jobs; plan_said = read.plan_said; jobs_said = read.jobs_said }) read.run
+  of_reserve is (inl failed) = caused failed.reason failed.fault_is (input_cause told counts seen failed.reason (ap reads is) failed.fails)
+  of_reserve is (inr read) = of read.run
+    where
+      as_read : AreRead seen
+      as_read = record { command = ap reads is; plan = read.plan; jobs = read.jobs; plan_said = read.plan_said; jobs_said = read.jobs_said }
+
+      of : (HasStopped told counts read.plan read.jobs olds news sink_old sink_new fault ends ⊎ HasReserved told counts sink_tells written sink_faults read.plan read.jobs olds news sink_old sink_new fault ends) → Causes
+      of (inl stopped) = of_stop as_read stopped
+      of (inr reserved) =
+          ends_cause told counts seen read.plan read.jobs reserved.opens reserved.opened reserved.added.lanes is as_read reserved.begins.are_opened reserved.added.passed ends reserved.added.output fault
+          reserved.added.ends_are reserved.added.cause reserved.added.fault_is
+
+  of_packet : command ≡ Some Packet → HasRunPacket told counts sink_tells written sink_faults seen.plan seen.jobs olds news sink_old sink_new fault ends → Causes
+  of_packet is (inl failed) = caused failed.reason failed.fault_is (input_cause told counts seen failed.reason (ap reads is) failed.fails)
+  of_packet is (inr read) = of read.run
+    where
+      as_read : AreRead seen
+      as_read = record { command = ap reads is; plan = read.plan; jobs = read.jobs; plan_said = read.plan_said; jobs_said = read.jobs_said }
+
+      of : (HasStopped told counts read.plan read.jobs olds news sink_old sink_new fault ends ⊎ HasShown told counts sink_tells written sink_faults read.plan read.jobs olds news sink_old sink_new fault ends) → Causes
+      of (inl stopped) = of_stop as_read stopped
+      of (inr shown) = subst (λ (f : Option Fault). IfSome f (Comes told counts seen)) (sym shown.fault_is) (written_read shown.output as_read shown.cause)
 
   pub course_causes : IsCourse told counts sink_tells written sink_faults source_tells left source_faults command olds news plan_old plan_new jobs_old jobs_new sink_old sink_new fault ends → Causes
   course_causes (inl did) = of_nothing did.status
   course_causes (inr (inl ran)) = of_format ran.command_is ran.run
-  course_causes (inr (inr ran)) = of_reserve ran.command_is ran.run
+  course_causes (inr (inr (inl ran))) = of_reserve ran.command_is ran.run
+  course_causes (inr (inr (inr ran))) = of_packet ran.command_is ran.run

@@ -1,5 +1,5 @@
 -- Where nothing is amiss, no fault has its cause but want of memory or of room.
-use Rattle.std.proofs.Common.{◌≡◌, inl, inr, ℕ, ◌<◌, Option, Some, None, IfSome, Result, Ok, Err, List, [], ◌∷◌, length, get_or, suc, refl, sym, ap, subst, ◌∙◌, arith}
+use Rattle.std.proofs.Common.{◌≡◌, inl, inr, ℕ, ◌<◌, true, Option, Some, None, IfSome, Result, Ok, Err, List, [], ◌∷◌, length, get_or, suc, refl, sym, ap, subst, ◌∙◌, arith}
 use Rattle.disk_model.specs.Counts.{Counts}
 use Rattle.disk_model.specs.Disk.{Meaning}
 use Rattle.gate_log.specs.Formatting.{IsMade}
@@ -14,7 +14,9 @@ use Rattle.counter_journal.specs.JournalLaws.{one_history, fit_of, written_are_r
 use Rattle.counter_journal.specs.JournalReading.{Holds}
 use Rattle.lane_session.specs.Differences.{keyset_difference, job_difference}
 use Rattle.ota_commands.specs.Inputs.{Input, Says, plan_reading, jobs_reading}
-use Rattle.ota_commands.specs.Answers.{Seen, AreRead, HoldBelow, IsRefused, CanStand, IsRefusedFormat, Comes, IsSteady, CanFormat, CanReserve, IsDone, IsDoneUnlessFull, IsComplete}
+use Rattle.ota_commands.specs.Answers.{Seen, reads, AreRead, HoldBelow, IsRefused, CanStand, IsRefusedFormat, Comes, IsSteady, CanFormat, CanRun, IsDone, IsDoneUnlessFull, IsComplete}
+use Rattle.ota_commands.specs.declared.words.Command.{Command}
+use Rattle.ota_commands.specs.declared.words.Command.TheVariants.{Format, Reserve, Packet}
 use Rattle.ota_commands.specs.declared.faults.Which.TheVariants as which
 use Rattle.ota_commands.specs.declared.faults.Fault.{Fault}
 use Rattle.ota_commands.specs.declared.faults.Fault.TheVariants as fault
@@ -61,8 +63,8 @@ module _ {D B C : Type 0} (told : Meaning D B C) (counts : D → Counts) (seen :
   -- ---- the making of the journals
 
   module _ (can : CanFormat told counts seen) where
-    not_reserve : AreRead seen → ⊥
-    not_reserve read = cc (read.command, can.command)
+    not_read : reads seen.command ≡ true → ⊥
+    not_read reading = cc (ap reads can.command, reading)
 
     stands : (lane : ℕ) (error : _) → IsRefusedFormat told seen.olds lane error → (site : D) × CanStand lane (length seen.olds) (told.seen (get_or seen.olds lane site))
     stands lane error refused = let site = element seen.olds lane refused.within in (site, can.stand lane site refused.within)
@@ -71,30 +73,33 @@ module _ {D B C : Type 0} (told : Meaning D B C) (counts : D → Counts) (seen :
     format_done None comes = tt
     format_done (Some fault.Memory) comes = tt
     format_done (Some fault.Usage) comes = absurd (cc (comes, can.command))
-    format_done (Some (fault.PlanRefused table row field)) comes = absurd (cc (comes.0, can.command))
-    format_done (Some (fault.JobsRefused row column)) comes = absurd (cc (comes.command, can.command))
-    format_done (Some (fault.InputTooLong which.Plan)) comes = absurd (cc (comes.0, can.command))
-    format_done (Some (fault.InputTooLong which.Jobs)) comes = absurd (cc (comes.command, can.command))
-    format_done (Some (fault.SourceFault which.Plan)) comes = absurd (cc (comes.0, can.command))
-    format_done (Some (fault.SourceFault which.Jobs)) comes = absurd (cc (comes.command, can.command))
-    format_done (Some (fault.JobDiffers row counter)) comes = absurd (not_reserve comes.read)
-    format_done (Some (fault.KeysetDiffers keyset)) comes = absurd (not_reserve comes.read)
+    format_done (Some (fault.PlanRefused table row field)) comes = absurd (not_read comes.0)
+    format_done (Some (fault.JobsRefused row column)) comes = absurd (not_read comes.command)
+    format_done (Some (fault.InputTooLong which.Plan)) comes = absurd (not_read comes.0)
+    format_done (Some (fault.InputTooLong which.Jobs)) comes = absurd (not_read comes.command)
+    format_done (Some (fault.SourceFault which.Plan)) comes = absurd (not_read comes.0)
+    format_done (Some (fault.SourceFault which.Jobs)) comes = absurd (not_read comes.command)
+    format_done (Some (fault.JobDiffers row counter)) comes = absurd (not_read comes.read.command)
+    format_done (Some (fault.KeysetDiffers keyset)) comes = absurd (not_read comes.read.command)
     format_done (Some fault.SinkFault) comes = absurd (can.steady.sink comes.1)
     format_done (Some (fault.SiteFault lane)) comes = let site = element seen.olds lane comes.within in absurd (can.steady.sites lane site site comes.within (comes.risen site site))
     format_done (Some (fault.NotAJournal lane)) (inl comes) =
         let at = stands lane _ comes.1 in absurd (not_another _ _ lane (length seen.olds) refl at.1 (comes.1.refuses at.0 (can.steady.tell lane at.0 comes.1.within)))
-    format_done (Some (fault.NotAJournal lane)) (inr comes) = absurd (not_reserve comes.0)
+    format_done (Some (fault.NotAJournal lane)) (inr comes) = absurd (not_read comes.0.command)
     format_done (Some (fault.WrongLane lane other others)) (rest, first, second, inl comes) =
         let at = stands lane _ comes.1 in absurd (not_of_another _ rest lane (length seen.olds) at.1 (comes.1.refuses at.0 (can.steady.tell lane at.0 comes.1.within)))
-    format_done (Some (fault.WrongLane lane other others)) (rest, first, second, inr comes) = absurd (not_reserve comes.0)
-    format_done (Some (fault.Damaged lane number)) comes = absurd (not_reserve comes.0)
-    format_done (Some (fault.Unformatted lane)) comes = absurd (not_reserve comes.0)
-    format_done (Some (fault.Full lane len need)) comes = absurd (not_reserve comes.read)
+    format_done (Some (fault.WrongLane lane other others)) (rest, first, second, inr comes) = absurd (not_read comes.0.command)
+    format_done (Some (fault.Damaged lane number)) comes = absurd (not_read comes.0.command)
+    format_done (Some (fault.Unformatted lane)) comes = absurd (not_read comes.0.command)
+    format_done (Some (fault.Full lane len need)) comes = absurd (not_read comes.read.command)
     format_done (Some _) comes = absurd comes
 
-  -- ---- the reservations
+  -- ---- the commands that read a plan and jobs
 
-  module _ (can : CanReserve told counts seen) where
+  module _ (said : Command) (not_format : said ≡ Format → ⊥) (can : CanRun told counts said seen) where
+    not_made : seen.command ≡ Some Format → ⊥
+    not_made is = not_format (cc (is, can.command))
+
     plan_fine : (f : Fault) → IfSome seen.plan.octets (λ octets. plan_reading octets ≡ Err f) → ⊥
     plan_fine f refuses = not_refused plan_reading seen.plan can.plan f can.plan_read refuses
 
@@ -135,40 +140,64 @@ module _ {D B C : Type 0} (told : Meaning D B C) (counts : D → Counts) (seen :
         let open_it = opens lane site read refused.within (is site) in
         differs open_it.1 open_it.0 open_it.2
 
-    reserve_done : (answer : Option Fault) → IfSome answer (Comes told counts seen) → IsDoneUnlessFull answer
-    reserve_done None comes = tt
-    reserve_done (Some fault.Memory) comes = tt
-    reserve_done (Some fault.Usage) comes = absurd (cc (comes, can.command))
-    reserve_done (Some (fault.PlanRefused table row field)) comes = absurd (plan_fine _ comes.1.1)
-    reserve_done (Some (fault.JobsRefused row column)) comes = absurd (jobs_fine comes.plan _ comes.plan_said comes.comes.1)
-    reserve_done (Some (fault.InputTooLong which.Plan)) comes = absurd (plan_fine _ comes.1.1)
-    reserve_done (Some (fault.InputTooLong which.Jobs)) comes = absurd (jobs_fine comes.plan _ comes.plan_said comes.comes.1)
-    reserve_done (Some (fault.SourceFault which.Plan)) comes = absurd (can.plan_read.steady comes.1.1)
-    reserve_done (Some (fault.SourceFault which.Jobs)) comes = absurd (can.jobs_read.steady comes.comes.1)
-    reserve_done (Some (fault.JobDiffers row counter)) comes =
+    run_done : (answer : Option Fault) → IfSome answer (Comes told counts seen) → IsDoneUnlessFull answer
+    run_done None comes = tt
+    run_done (Some fault.Memory) comes = tt
+    run_done (Some fault.Usage) comes = absurd (cc (comes, can.command))
+    run_done (Some (fault.PlanRefused table row field)) comes = absurd (plan_fine _ comes.1.1)
+    run_done (Some (fault.JobsRefused row column)) comes = absurd (jobs_fine comes.plan _ comes.plan_said comes.comes.1)
+    run_done (Some (fault.InputTooLong which.Plan)) comes = absurd (plan_fine _ comes.1.1)
+    run_done (Some (fault.InputTooLong which.Jobs)) comes = absurd (jobs_fine comes.plan _ comes.plan_said comes.comes.1)
+    run_done (Some (fault.SourceFault which.Plan)) comes = absurd (can.plan_read.steady comes.1.1)
+    run_done (Some (fault.SourceFault which.Jobs)) comes = absurd (can.jobs_read.steady comes.comes.1)
+    run_done (Some (fault.JobDiffers row counter)) comes =
         let differs = subst (λ (j : List Job). job_difference j comes.histories ≡ Some (row, counter)) (same_jobs comes.read) comes.differs.1 in
         let there = subst (λ (h : List (List Entry)). job_difference can.jobs h ≡ Some (row, counter)) (same_histories comes.histories comes.each comes.hold) differs in
         absurd (cc (there, can.rows))
-    reserve_done (Some (fault.KeysetDiffers keyset)) comes =
+    run_done (Some (fault.KeysetDiffers keyset)) comes =
         let differs = subst (λ (p : Plan). keyset_difference p comes.histories ≡ Some keyset) (same_plan comes.read.plan comes.read.plan_said) comes.differs in
         let there = subst (λ (h : List (List Entry)). keyset_difference can.plan h ≡ Some keyset) (same_histories comes.histories comes.each comes.hold) differs in
         absurd (cc (there, can.keysets))
-    reserve_done (Some fault.SinkFault) comes = absurd (can.steady.sink comes.1)
-    reserve_done (Some (fault.SiteFault lane)) comes = let site = element seen.olds lane comes.within in absurd (can.steady.sites lane site site comes.within (comes.risen site site))
-    reserve_done (Some (fault.NotAJournal lane)) (inl comes) = absurd (cc (comes.0, can.command))
-    reserve_done (Some (fault.NotAJournal lane)) (inr comes) =
+    run_done (Some fault.SinkFault) comes = absurd (can.steady.sink comes.1)
+    run_done (Some (fault.SiteFault lane)) comes = let site = element seen.olds lane comes.within in absurd (can.steady.sites lane site site comes.within (comes.risen site site))
+    run_done (Some (fault.NotAJournal lane)) (inl comes) = absurd (not_made comes.0)
+    run_done (Some (fault.NotAJournal lane)) (inr comes) =
         absurd (not_other lane _ NotALog comes.1 (λ site. comes.1.refuses site (can.steady.tell lane site comes.1.within)) (λ parts behind is. cc is))
-    reserve_done (Some (fault.WrongLane lane other others)) (rest, first, second, inl comes) = absurd (cc (comes.0, can.command))
-    reserve_done (Some (fault.WrongLane lane other others)) (rest, first, second, inr comes) =
+    run_done (Some (fault.WrongLane lane other others)) (rest, first, second, inl comes) = absurd (not_made comes.0)
+    run_done (Some (fault.WrongLane lane other others)) (rest, first, second, inr comes) =
         absurd (not_other lane _ (OtherHead rest) comes.1 (λ site. comes.1.refuses site (can.steady.tell lane site comes.1.within)) (λ parts behind is. cc is))
-    reserve_done (Some (fault.Damaged lane number)) comes =
+    run_done (Some (fault.Damaged lane number)) comes =
         let site = element seen.olds lane comes.1.within in
         let its = held lane site comes.1.within in
         absurd (written_are_read lane (length seen.olds) (get_or can.histories lane []) (told.seen (get_or seen.olds lane site)) number its.0 its.1 (comes.1.refuses site (can.steady.tell lane site comes.1.within)))
-    reserve_done (Some (fault.Unformatted lane)) comes =
+    run_done (Some (fault.Unformatted lane)) comes =
         absurd (not_other lane _ Unformatted comes.1 (λ site. comes.1.refuses site (can.steady.tell lane site comes.1.within)) (λ parts behind is. cc is))
-    reserve_done (Some (fault.Full lane len need)) comes = tt
-    reserve_done (Some _) comes = absurd comes
+    run_done (Some (fault.Full lane len need)) comes = tt
+    run_done (Some _) comes = absurd comes
+
+  packet_done : (answer : Option Fault) → IfSome answer (Comes told counts seen) → seen.command ≡ Some Packet → IsDoneUnlessFull answer → IsDone answer
+  packet_done (Some (fault.Full lane len need)) comes is done = absurd (cc (comes.command, is))
+  packet_done None comes is done = done
+  packet_done (Some fault.Memory) comes is done = done
+  packet_done (Some fault.Usage) comes is done = done
+  packet_done (Some (fault.PlanRefused table row field)) comes is done = done
+  packet_done (Some (fault.JobsRefused row column)) comes is done = done
+  packet_done (Some (fault.InputTooLong of)) comes is done = done
+  packet_done (Some (fault.SourceFault of)) comes is done = done
+  packet_done (Some (fault.JobDiffers row counter)) comes is done = done
+  packet_done (Some (fault.KeysetDiffers keyset)) comes is done = done
+  packet_done (Some (fault.KeysetClosed keyset)) comes is done = done
+  packet_done (Some (fault.KeysetUnknown keyset)) comes is done = done
+  packet_done (Some fault.SinkFault) comes is done = done
+  packet_done (Some (fault.SiteFault lane)) comes is done = done
+  packet_done (Some (fault.NotAJournal lane)) comes is done = done
+  packet_done (Some (fault.WrongLane lane other others)) comes is done = done
+  packet_done (Some (fault.Damaged lane number)) comes is done = done
+  packet_done (Some (fault.Unformatted lane)) comes is done = done
 
   pub is_complete : (answer : Option Fault) → IfSome answer (Comes told counts seen) → IsComplete told counts seen answer
-  is_complete answer comes = record { format = λ can. format_done can answer comes; reserve = λ can. reserve_done can answer comes }
+  is_complete answer comes = record {
+    format = λ can. format_done can answer comes;
+    reserve = λ can. run_done Reserve (λ is. absurd (cc is)) can answer comes;
+    packet = λ can. packet_done answer comes can.command (run_done Packet (λ is. absurd (cc is)) can answer comes);
+  }

@@ -13,7 +13,7 @@ use Rattle.lane_session.specs.SoundLaws.{still_sound, opening_sound, opened_soun
 use Rattle.ota_core.specs.declared.jobs.Job.{Job}
 use Rattle.plan_reader.specs.declared.plans.Plan.{Plan}
 use Rattle.ota_commands.specs.Inputs.{Input}
-use Rattle.ota_commands.specs.Command.{NoneEnded, HasRunFormat, HasRunOn, HasRunReserve, IsCourse}
+use Rattle.ota_commands.specs.Command.{NoneEnded, StopsWith, HasStopped, HasRunFormat, HasReserved, HasRunReserve, HasShown, HasRunPacket, IsCourse}
 use Rattle.ota_commands.specs.Answers.{AllOpen}
 use Rattle.ota_commands.specs.declared.words.Command.{Command}
 use Rattle.ota_commands.specs.declared.words.Command.TheVariants.{Format}
@@ -49,15 +49,27 @@ module _ {D B C : Type 0} (told : Meaning D B C) (counts : D → Counts) (seen_i
     of_format (inl refused) = formatting_sound told counts seen_is_image olds news refused.error refused.refused sound
     of_format (inr formatted) = formatted_sound told counts seen_is_image olds news formatted.formatted sound
 
-    of_rows : (plan : Plan) (jobs : List Job) → HasRunOn told counts sink_tells written sink_faults plan jobs olds news sink_old sink_new fault ends → StaySound told olds news
-    of_rows plan jobs (inl refused) = opening_sound told counts seen_is_image olds news refused.error refused.refused sound
-    of_rows plan jobs (inr (inl differed)) = opened_sound told counts seen_is_image olds news differed.opened differed.are_opened sound
-    of_rows plan jobs (inr (inr reserved)) =
-        session_sound told counts seen_is_image plan jobs olds reserved.opens news reserved.opened reserved.added.lanes reserved.are_opened reserved.added.passed reserved.distinct reserved.agree sound
+    of_stop : (plan : Plan) (jobs : List Job) (reason : Fault) → StopsWith told counts plan jobs olds news reason → StaySound told olds news
+    of_stop plan jobs reason (inl refused) = opening_sound told counts seen_is_image olds news refused.error refused.refused sound
+    of_stop plan jobs reason (inr differs) = opened_sound told counts seen_is_image olds news differs.opened differs.are_opened sound
 
     of_reserve : (plan_input jobs_input : Input) → HasRunReserve told counts sink_tells written sink_faults plan_input jobs_input olds news sink_old sink_new fault ends → StaySound told olds news
     of_reserve plan_input jobs_input (inl failed) = untouched_sound failed.sites
-    of_reserve plan_input jobs_input (inr read) = of_rows read.plan read.jobs read.run
+    of_reserve plan_input jobs_input (inr read) = of read.run
+      where
+        of : (HasStopped told counts read.plan read.jobs olds news sink_old sink_new fault ends ⊎ HasReserved told counts sink_tells written sink_faults read.plan read.jobs olds news sink_old sink_new fault ends) → StaySound told olds news
+        of (inl stopped) = of_stop read.plan read.jobs stopped.reason stopped.stops
+        of (inr reserved) =
+            session_sound told counts seen_is_image read.plan read.jobs olds reserved.opens news reserved.opened reserved.added.lanes reserved.begins.are_opened reserved.added.passed reserved.begins.distinct
+            reserved.begins.agree sound
+
+    of_packet : (plan_input jobs_input : Input) → HasRunPacket told counts sink_tells written sink_faults plan_input jobs_input olds news sink_old sink_new fault ends → StaySound told olds news
+    of_packet plan_input jobs_input (inl failed) = untouched_sound failed.sites
+    of_packet plan_input jobs_input (inr read) = of read.run
+      where
+        of : (HasStopped told counts read.plan read.jobs olds news sink_old sink_new fault ends ⊎ HasShown told counts sink_tells written sink_faults read.plan read.jobs olds news sink_old sink_new fault ends) → StaySound told olds news
+        of (inl stopped) = of_stop read.plan read.jobs stopped.reason stopped.stops
+        of (inr shown) = opened_sound told counts seen_is_image olds news shown.opened shown.begins.are_opened sound
 
     open_format : HasRunFormat told counts sink_tells written sink_faults olds news sink_old sink_new fault → fault ≡ None → AllOpen told news
     open_format (inl refused) none = absurd (cc (none, refused.fault_is))
@@ -72,10 +84,12 @@ module _ {D B C : Type 0} (told : Meaning D B C) (counts : D → Counts) (seen_i
     pub course_sound : IsCourse told counts sink_tells written sink_faults source_tells left source_faults command olds news plan_old plan_new jobs_old jobs_new sink_old sink_new fault ends → StaySound told olds news
     course_sound (inl did) = untouched_sound did.sites
     course_sound (inr (inl ran)) = of_format sink_tells written sink_faults sink_old sink_new fault ends ran.run
-    course_sound (inr (inr ran)) = of_reserve sink_tells written sink_faults sink_old sink_new fault ends _ _ ran.run
+    course_sound (inr (inr (inl ran))) = of_reserve sink_tells written sink_faults sink_old sink_new fault ends _ _ ran.run
+    course_sound (inr (inr (inr ran))) = of_packet sink_tells written sink_faults sink_old sink_new fault ends _ _ ran.run
 
     pub course_open : IsCourse told counts sink_tells written sink_faults source_tells left source_faults command olds news plan_old plan_new jobs_old jobs_new sink_old sink_new fault ends
         → command ≡ Some Format → fault ≡ None → AllOpen told news
     course_open (inl did) is none = open_nothing sink_tells written sink_faults sink_old sink_new fault ends command did.status none
     course_open (inr (inl ran)) is none = open_format sink_tells written sink_faults sink_old sink_new fault ends ran.run none
-    course_open (inr (inr ran)) is none = absurd (cc (is, ran.command_is))
+    course_open (inr (inr (inl ran))) is none = absurd (cc (is, ran.command_is))
+    course_open (inr (inr (inr ran))) is none = absurd (cc (is, ran.command_is))

@@ -1,6 +1,6 @@
 -- When a command answers what. Each fault has its cause; and where nothing is amiss, the answer is none, or that memory or
 -- room is wanting.
-use Rattle.std.specs.Prelude.{◌≡◌, ◌⊎◌, ℕ, ◌+◌, ◌<◌, Bool, Option, Some, None, Result, Ok, List, [], length, slice_index_or}
+use Rattle.std.specs.Prelude.{◌≡◌, ◌⊎◌, ℕ, ◌+◌, ◌<◌, Bool, true, false, Option, Some, None, Result, Ok, List, [], length, slice_index_or}
 use Rattle.disk_model.specs.Counts.{Counts, HasRisen as DiskRisen}
 use Rattle.disk_model.specs.Disk.{Meaning, Tells}
 use Rattle.gate_log.specs.declared.log_errors.LogErr.{LogErr}
@@ -21,7 +21,7 @@ use Rattle.lane_session.specs.Differences.{keyset_difference, job_difference}
 use Rattle.ota_commands.specs.Inputs.{Input, source_input, Says, ReadFaultComes, plan_reading, jobs_reading}
 use Rattle.ota_commands.specs.Ends.{two_at}
 use Rattle.ota_commands.specs.declared.words.Command.{Command}
-use Rattle.ota_commands.specs.declared.words.Command.TheVariants.{Format, Reserve}
+use Rattle.ota_commands.specs.declared.words.Command.TheVariants.{Format, Reserve, Packet}
 use Rattle.ota_commands.specs.declared.faults.Which.TheVariants as which
 use Rattle.ota_commands.specs.declared.faults.Fault.{Fault}
 use Rattle.ota_commands.specs.declared.faults.Fault.TheVariants.{Usage, PlanRefused, JobsRefused, InputTooLong, JobDiffers, KeysetDiffers, SourceFault, SinkFault, SiteFault, NotAJournal, WrongLane, Damaged, Full, Unformatted, Memory}
@@ -49,9 +49,15 @@ seen_of tells left source_faults sink_faults command olds news plan_old plan_new
   sink_now = sink_faults sink_new;
 }
 
--- the counters are to be reserved, and the plan and the jobs are what the inputs say
+-- the command reads a plan and jobs
+abbrev pub reads : Option Command → Bool
+reads (Some Reserve) = true
+reads (Some Packet) = true
+reads _ = false
+
+-- the command reads, and the plan and the jobs are what the inputs say
 pub record AreRead {D : Type 0} (seen : Seen D) : Type 0 where
-  pub command : seen.command ≡ Some Reserve
+  pub command : reads seen.command ≡ true
   pub plan : Plan
   pub jobs : List Job
   pub plan_said : Says plan_reading seen.plan plan
@@ -59,14 +65,14 @@ pub record AreRead {D : Type 0} (seen : Seen D) : Type 0 where
 
 -- the plan is what its input says, and the jobs have this fault
 pub record JobsFail {D : Type 0} (seen : Seen D) (fault : Fault) : Type 0 where
-  pub command : seen.command ≡ Some Reserve
+  pub command : reads seen.command ≡ true
   pub plan : Plan
   pub plan_said : Says plan_reading seen.plan plan
   pub comes : ReadFaultComes which.Jobs (jobs_reading plan) seen.jobs fault
 
 -- the plan has this fault
 abbrev pub PlanFails : {D : Type 0} → Seen D → Fault → Type 0
-PlanFails seen fault = (seen.command ≡ Some Reserve) × ReadFaultComes which.Plan plan_reading seen.plan fault
+PlanFails seen fault = (reads seen.command ≡ true) × ReadFaultComes which.Plan plan_reading seen.plan fault
 
 -- the sites are called
 abbrev pub ReachesSites : {D : Type 0} → Seen D → Type 0
@@ -118,6 +124,7 @@ pub record SiteFails {D : Type 0} (counts : D → Counts) (seen : Seen D) (numbe
 
 -- a log has no room for so many octets more
 pub record IsTooLong {D : Type 0} (seen : Seen D) (number len need : ℕ) : Type 0 where
+  pub command : seen.command ≡ Some Reserve
   pub read : AreRead seen
   pub within : number < length seen.olds
   pub longer : LIMIT < len + need
@@ -177,9 +184,9 @@ module _ {D B C : Type 0} (told : Meaning D B C) (counts : D → Counts) where
     pub steady : AreSteady seen
     pub stand : (k : ℕ) (site : D) → k < length seen.olds → CanStand k (length seen.olds) (told.seen (slice_index_or seen.olds k site))
 
-  -- nothing is amiss with the reservations: the inputs have readings, the journals hold histories, and these don't differ
-  pub record CanReserve (seen : Seen D) : Type 0 where
-    pub command : seen.command ≡ Some Reserve
+  -- nothing is amiss with a command that reads: the inputs have readings, the journals hold histories, and these don't differ
+  pub record CanRun (said : Command) (seen : Seen D) : Type 0 where
+    pub command : seen.command ≡ Some said
     pub steady : AreSteady seen
     pub plan : Plan
     pub jobs : List Job
@@ -194,7 +201,8 @@ module _ {D B C : Type 0} (told : Meaning D B C) (counts : D → Counts) where
   -- where nothing is amiss, the command does its work
   pub record IsComplete (seen : Seen D) (fault : Option Fault) : Type 0 where
     pub format : CanFormat seen → IsDone fault
-    pub reserve : CanReserve seen → IsDoneUnlessFull fault
+    pub reserve : CanRun Reserve seen → IsDoneUnlessFull fault
+    pub packet : CanRun Packet seen → IsDone fault
 
 module _ {D B C : Type 0} (told : Meaning D B C) where
   -- on each site the journal of its lane stands and opens

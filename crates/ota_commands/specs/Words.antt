@@ -1,10 +1,10 @@
 -- The words of the commands.
 use Rattle.std.specs.Prelude.{ℕ, Bool, false, not, nat_le, ◌==◌, ◌&&◌, if◌then◌else◌, Option, Some, None, option_map, List, [], ◌∷◌, codes}
-use Rattle.std.specs.Option.{option_and_then}
+use Rattle.std.specs.Option.{option_and_then, option_or}
 use Rattle.std.specs.Str.{bytes_eq}
 use Rattle.plan_reader.specs.Number.{number_of}
 use Rattle.ota_commands.specs.declared.words.Command.{Command}
-use Rattle.ota_commands.specs.declared.words.Command.TheVariants.{Format, Reserve}
+use Rattle.ota_commands.specs.declared.words.Command.TheVariants.{Format, Reserve, Packet}
 use Rattle.ota_commands.specs.declared.words.Words.{Words}
 
 -- a word that can be a path: it isn't empty and doesn't begin as an option does
@@ -32,13 +32,22 @@ lanes_in digits = option_and_then (λ lanes. if nat_le 1 lanes then Some lanes e
 abbrev pub said_by : Command → Bool → List ℕ → Option Words
 said_by command are count = if are then option_map (λ lanes. record { command = command; lanes = lanes }) (lanes_in count) else None
 
--- `format --lanes N --store PATH` or `reserve --lanes N --store PATH --plan PATH --jobs PATH`, in that order
+-- the paths of a store, a plan and jobs, each behind its option
+unfoldable pub has_paths : List ℕ → List ℕ → List ℕ → List ℕ → List ℕ → List ℕ → Bool
+has_paths store store_path plan plan_path jobs jobs_path =
+    is_option store (codes "--store") store_path && is_option plan (codes "--plan") plan_path && is_option jobs (codes "--jobs") jobs_path
+
+-- what the words of a command say that reads a plan and jobs, where the paths are those
+abbrev pub said_reading : List ℕ → List ℕ → Bool → List ℕ → Option Words
+said_reading command lanes are count =
+    option_or (said_by Reserve (has_front (codes "reserve") command lanes && are) count) (said_by Packet (has_front (codes "packet") command lanes && are) count)
+
+-- `format --lanes N --store PATH`, or `reserve` or `packet` with `--lanes N --store PATH --plan PATH --jobs PATH`, in that order
 abbrev pub words_of : List (List ℕ) → Option Words
 words_of (command ∷ lanes ∷ count ∷ store ∷ path ∷ []) =
     said_by Format (has_front (codes "format") command lanes && is_option store (codes "--store") path) count
 words_of (command ∷ lanes ∷ count ∷ store ∷ store_path ∷ plan ∷ plan_path ∷ jobs ∷ jobs_path ∷ []) =
-    said_by Reserve (has_front (codes "reserve") command lanes && is_option store (codes "--store") store_path
-    && is_option plan (codes "--plan") plan_path && is_option jobs (codes "--jobs") jobs_path) count
+    said_reading command lanes (has_paths store store_path plan plan_path jobs jobs_path) count
 words_of _ = None
 
 -- the command, where the words say this number of lanes

@@ -5,6 +5,8 @@ mod ends;
 mod faults;
 mod formatting;
 mod inputs;
+mod opening;
+mod packets;
 mod plain;
 mod reserving;
 mod words;

@@ -8,6 +8,7 @@ ghost use Rattle.ota_commands.specs.declared.words.Command.TheVariants as comman
 
 use crate::faults::Fault;
 use crate::formatting::format;
+use crate::packets::packet;
 use crate::reserving::reserve;
 use crate::words::{Command, command_for};
 use disk_model::DiskCalls;
@@ -39,6 +40,8 @@ pub struct Ended<T> {
 /// nothing written where one is refused, or where they differ from the plan or the jobs. Else it adds an Open for each
 /// keyset that a job names and the journals lack, lane by lane; then it reserves a counter for each job that has none, one
 /// job after the other, each durably before the next; and writes the report. A lane that fails stops, and the others go on.
+///
+/// `packet`, with the same options, writes the messages of the jobs that are reserved and not settled, and adds nothing.
 pub fn plain_command<S: Source, K: Sink, T: Site>(
     alloc: Global,
     words: &[String],
@@ -108,6 +111,7 @@ fn run<S: Source, K: Sink, T: DiskCalls>(
         None => Some(Fault::Usage),
         Some(Command::Format) => format(alloc, out, sites),
         Some(Command::Reserve) => reserve(alloc, plan, jobs, out, sites, ends),
+        Some(Command::Packet) => packet(alloc, plan, jobs, out, sites),
     }
 }
 

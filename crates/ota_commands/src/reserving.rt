@@ -1,16 +1,17 @@
 //! The command `reserve`.
 
-ghost use Rattle.std.specs.Prelude.{◌≡◌, ◌<◌, ◌≤◌, length, None};
+ghost use Rattle.std.specs.Prelude.{◌≡◌, ◌⊎◌, ◌≤◌, length};
 ghost use Rattle.lane_session.specs.Lanes.{AreReady};
 ghost use Rattle.ota_commands.specs.Inputs.{source_input, AreRows};
-ghost use Rattle.ota_commands.specs.Command.{NoneEnded, HasAdded, HasRunOn, HasRunReserve};
+ghost use Rattle.ota_commands.specs.Command.{NoneEnded, HasAdded, HasStopped, HasReserved, HasRunReserve};
 
-use crate::ends::{difference, fault_of_opening, first_end, set_ends};
+use crate::ends::{first_end, set_ends};
 use crate::faults::Fault;
 use crate::inputs::{jobs_from, plan_from};
+use crate::opening::open_agreeing;
 use crate::writing::{answer_of, write_report};
 use disk_model::DiskCalls;
-use lane_session::{Lane, add_for_rows, open_lanes};
+use lane_session::{Lane, add_for_rows};
 use ota_core::Job;
 use ota_io::{Sink, Source};
 use plan_reader::Plan;
@@ -56,17 +57,13 @@ fn reserve_for<K: Sink, T: DiskCalls>(
     requires few { length sites.old ≤ 64 }
     requires not_ended { NoneEnded sites.old ends.old }
     requires rows { AreRows jobs.now }
-    ensures { HasRunOn T.told T.counts K.tells K.written K.faults plan.now jobs.now sites.old sites.new out.old out.new result ends.new }
+    ensures { HasStopped T.told T.counts plan.now jobs.now sites.old sites.new out.old out.new result ends.new
+        ⊎ HasReserved T.told T.counts K.tells K.written K.faults plan.now jobs.now sites.old sites.new out.old out.new result ends.new }
 {
-    let lanes = match open_lanes(alloc, sites) {
-        Ok(lanes) => lanes,
-        Err(error) => return Some(fault_of_opening(error)),
-    };
-    let differs = difference(&lanes, plan, jobs);
-    if differs.is_some() {
-        return differs;
+    match open_agreeing(alloc, plan, jobs, sites) {
+        Ok(lanes) => reserve_on(alloc, plan, jobs, out, sites, lanes, ends),
+        Err(fault) => Some(fault),
     }
-    reserve_on(alloc, plan, jobs, out, sites, lanes, ends)
 }
 
 /// Reserves a counter for each job on opened lanes, and writes the report.

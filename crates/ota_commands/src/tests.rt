@@ -88,6 +88,16 @@ const RESERVE_ON_FOUR: &[&str] = &[
     "reserve", "--lanes", "4", "--store", "s", "--plan", "p", "--jobs", "j",
 ];
 
+const PACKET: &[&str] = &[
+    "packet", "--lanes", "1", "--store", "s", "--plan", "p", "--jobs", "j",
+];
+
+const PACKETS_HEADER: &str = "job,counter,place,octets\n";
+
+/// The message of the first row under the counter 1, by OpenSSL.
+const FIRST_MESSAGE: &str =
+    "1,0000000001,1,02700000381516391212b000106512b72bf01bea6df7860781072d78af5318e78f84a52ec01c2bf2bfb4f1d0a7f97786daca97a62deea470515f4f803e\n";
+
 const FORMAT_TWO: &[&str] = &["format", "--lanes", "2", "--store", "s"];
 
 /// What a run is made of.
@@ -398,6 +408,34 @@ fn a_stop_at_each_call_leaves_what_the_next_run_ends(rt: HostRuntime) -> Result<
             assert_eq!(rt; content(&again, 0).len(), 136);
         }
     }
+    Ok(())
+}
+
+#[test]
+fn the_message_of_a_reserved_row_is_shown(rt: HostRuntime) -> Result<(), Fail> {
+    let alloc = rt.alloc();
+    let jobs = text_of(alloc, &[HEADER, FIRST])?;
+    let text = text_of(alloc, &[PACKETS_HEADER, FIRST_MESSAGE])?;
+    let shown = with(PACKET, &jobs);
+    let before = run(alloc, &shown, sites(alloc, &[EMPTY])?)?;
+    assert!(rt; is_end(&before, None, PACKETS_HEADER));
+    let reserved = run(alloc, &with_jobs(&jobs), sites_of(before))?;
+    let after = run(alloc, &shown, sites_of(reserved))?;
+    assert!(rt; is_end(&after, None, &text));
+    assert_eq!(rt; content(&after, 0).len(), 136);
+    Ok(())
+}
+
+#[test]
+fn no_message_is_shown_of_journals_that_differ(rt: HostRuntime) -> Result<(), Fail> {
+    let alloc = rt.alloc();
+    let jobs = text_of(alloc, &[HEADER, FIRST])?;
+    let changed = text_of(alloc, &[HEADER, FIRST_CHANGED])?;
+    let reserved = run(alloc, &with_jobs(&jobs), sites(alloc, &[EMPTY])?)?;
+    let came = run(alloc, &with(PACKET, &changed), sites_of(reserved))?;
+    assert!(rt; is_end(&came, Some(Fault::JobDiffers(1, Counter(1))), ""));
+    let unmade = run(alloc, &with(PACKET, &jobs), sites(alloc, &[&[]])?)?;
+    assert!(rt; is_end(&unmade, Some(Fault::Unformatted(0)), ""));
     Ok(())
 }
 

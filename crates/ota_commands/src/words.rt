@@ -1,8 +1,9 @@
 //! The words of the commands.
 
 ghost use Rattle.std.specs.Prelude.{◌≡◌, ◌&&◌, ◌≤◌, map, string_bytes, IfSome};
+ghost use Rattle.std.specs.Option.{option_or};
 ghost use Rattle.std.specs.Str.{bytes_eq};
-ghost use Rattle.ota_commands.specs.Words.{has_front, is_option, is_path, lanes_in, said_by, words_of, command_of, command_for};
+ghost use Rattle.ota_commands.specs.Words.{has_front, is_option, has_paths, is_path, lanes_in, said_by, said_reading, words_of, command_of, command_for};
 
 use plan_reader::number;
 
@@ -19,6 +20,8 @@ pub enum Command {
     Format,
     /// Reserves a counter for each job.
     Reserve,
+    /// Shows the messages of the jobs that are reserved and not settled.
+    Packet,
 }
 
 /// What the words of a command say. Its paths are for the program alone.
@@ -29,8 +32,8 @@ pub struct Words {
     pub lanes: u16,
 }
 
-/// What the words say: `format --lanes N --store PATH`, or `reserve --lanes N --store PATH --plan PATH --jobs PATH`, in that
-/// order. None where they are no such words.
+/// What the words say: `format --lanes N --store PATH`, or `reserve` or `packet` with
+/// `--lanes N --store PATH --plan PATH --jobs PATH`, in that order. None where they are no such words.
 pub fn read_words(words: &[String]) -> Option<Words>
     ensures said { result ≡ words_of (map string_bytes words.now) }
     ensures some { IfSome result (λ said. 1 ≤ said.lanes) }
@@ -53,15 +56,8 @@ pub fn read_words(words: &[String]) -> Option<Words>
             jobs,
             jobs_path,
         ] => {
-            let has_front = has_front(command, "reserve", lanes);
-            let has_store = is_option(store, "--store", store_path);
-            let has_plan = is_option(plan, "--plan", plan_path);
-            let has_jobs = is_option(jobs, "--jobs", jobs_path);
-            said_by(
-                Command::Reserve,
-                are_all(has_front, has_store, has_plan, has_jobs),
-                count,
-            )
+            let has_paths = has_paths(store, store_path, plan, plan_path, jobs, jobs_path);
+            said_reading(command, lanes, has_paths, count)
         }
         _ => None,
     }
@@ -125,10 +121,44 @@ fn are_both(a: bool, b: bool) -> bool
     a && b
 }
 
-fn are_all(a: bool, b: bool, c: bool, d: bool) -> bool
-    ensures { result ≡ (a && b && c && d) }
+/// What the words of a command say that reads a plan and jobs, where the paths are those.
+fn said_reading(command: &String, lanes: &String, are: bool, count: &String) -> Option<Words>
+    ensures said { result ≡ said_reading (string_bytes command.now) (string_bytes lanes.now) are (string_bytes count.now) }
+    ensures some { IfSome result (λ said. 1 ≤ said.lanes) }
+    ensures few { IfSome result (λ said. said.lanes ≤ 64) }
 {
-    a && b && c && d
+    let reserves = has_front(command, "reserve", lanes);
+    let shows = has_front(command, "packet", lanes);
+    first_said(
+        said_by(Command::Reserve, are_both(reserves, are), count),
+        said_by(Command::Packet, are_both(shows, are), count),
+    )
+}
+
+fn first_said(first: Option<Words>, second: Option<Words>) -> Option<Words>
+    ensures { result ≡ option_or first second }
+{
+    match first {
+        None => second,
+        Some(said) => Some(said),
+    }
+}
+
+/// Whether these are the paths of a store, a plan and jobs, each behind its option.
+#[tactic(auto, unfolding(crate::specs::Words::has_paths))]
+fn has_paths(
+    store: &String,
+    store_path: &String,
+    plan: &String,
+    plan_path: &String,
+    jobs: &String,
+    jobs_path: &String,
+) -> bool
+    ensures { result ≡ has_paths (string_bytes store.now) (string_bytes store_path.now) (string_bytes plan.now) (string_bytes plan_path.now) (string_bytes jobs.now) (string_bytes jobs_path.now) }
+{
+    is_option(store, "--store", store_path)
+        && is_option(plan, "--plan", plan_path)
+        && is_option(jobs, "--jobs", jobs_path)
 }
 
 /// Whether these are the name of a command and the option of the number of lanes.

@@ -1,6 +1,7 @@
 //! What a command writes.
 
 ghost use Rattle.std.specs.Prelude.{◌≡◌, ◌<◌, ◌++◌, ℕ, List, IsTrue, IfOk, OnOk, length, string_bytes};
+ghost use Rattle.reports.specs.Packets.{packets_of};
 ghost use Rattle.reports.specs.Report.{report_of};
 ghost use Rattle.lane_session.specs.Differences.{histories_of};
 ghost use Rattle.ota_commands.specs.Writing.{formatted_text, IsWritten, WriteCause, answer_of};
@@ -9,7 +10,7 @@ use crate::faults::Fault;
 use lane_session::{Lane, into_histories};
 use ota_core::{Job, Memory};
 use ota_io::{Sink, write_all};
-use reports::report_text;
+use reports::{packet_text, report_text};
 use std::alloc::Global;
 
 /// How far a text was written.
@@ -40,6 +41,31 @@ fn report_on(alloc: Global, jobs: &[Job], lanes: Vec<Lane>) -> Result<String, Me
 {
     let histories = into_histories(alloc, lanes)?;
     report_text(alloc, jobs, &histories)
+}
+
+/// Writes the messages of the jobs that are reserved and not settled, by the histories of the lanes.
+pub fn write_packets<K: Sink>(
+    alloc: Global,
+    sink: &mut K,
+    jobs: &[Job],
+    lanes: Vec<Lane>,
+) -> Written
+    requires some { 0 < length lanes.items }
+    ensures text { IsTrue (K.tells sink.old) → IsWritten (packets_of jobs.now (histories_of lanes.items)) (K.written sink.old) (K.written sink.new) result }
+    ensures cause { WriteCause (K.faults sink.old) (K.faults sink.new) result }
+{
+    match packets_on(alloc, jobs, lanes) {
+        Err(_) => Written::Nothing,
+        Ok(text) => write_text(sink, &text),
+    }
+}
+
+fn packets_on(alloc: Global, jobs: &[Job], lanes: Vec<Lane>) -> Result<String, Memory>
+    requires some { 0 < length lanes.items }
+    ensures { IfOk result (λ text. string_bytes text ≡ packets_of jobs.now (histories_of lanes.items)) }
+{
+    let histories = into_histories(alloc, lanes)?;
+    packet_text(alloc, jobs, &histories)
 }
 
 /// Writes that the journals of so many lanes are made.

@@ -6,4 +6,4 @@ pub returns-in-len9-clause-said : goal.returns-in-len9-clause-said
 returns-in-len9-clause-said c =
     let words = nine_words c.args.words.now _ _ _ _ _ _ _ _ _ c.in-len9.len_at_least c.in-len9.len_below
     c.command-item-then-words-lt10.is c.lanes-item-then-words-lt10.is c.count-item-then-words-lt10.is c.store-item-then-words-lt10.is c.store_path-item.is c.plan-item.is c.plan_path-item.is c.jobs-item.is c.jobs_path-item.is in
-    rw words (rw (c.said_by-in-len9.ensures.said, c.are_all.ensures, c.has_front-has_front-in-len9.ensures, c.is_option-has_store-in-len9.ensures, c.is_option-has_plan.ensures, c.is_option-has_jobs.ensures) refl)
+    rw words (rw (c.said_reading.ensures.said, c.has_paths-has_paths.ensures) refl)
