@@ -40,7 +40,7 @@ unmade_none lane lanes entries octets unmade (inl (is, none)) = none
 unmade_none lane lanes entries octets unmade (inr (history, holds)) = absurd (not_unmade lane lanes (parts_for entries) octets holds unmade)
 
 -- it is a history of each lane
-no_entries : (lane lanes : ℕ) → IsHistory lane lanes []
+pub no_entries : (lane lanes : ℕ) → IsHistory lane lanes []
 no_entries lane lanes = record { legal = tt; of_lane = λ k d below. absurd (omega arith) }
 
 -- a journal without entries stands for it, and for no other

@@ -13,6 +13,7 @@ use Rattle.counter_journal.specs.Journal.{journal_head}
 use Rattle.counter_journal.specs.JournalLaws.{one_history, fit_of, written_are_read}
 use Rattle.counter_journal.specs.JournalReading.{Holds}
 use Rattle.lane_session.specs.Differences.{keyset_difference, job_difference}
+use Rattle.lane_session.specs.SoundSteps.{element_of}
 use Rattle.ota_commands.specs.Inputs.{Input, Says, plan_reading, jobs_reading}
 use Rattle.ota_commands.specs.Answers.{Seen, reads, AreRead, HoldBelow, IsRefused, CanStand, IsRefusedFormat, Comes, IsSteady, CanFormat, CanRun, IsDone, IsDoneUnlessFull, IsComplete}
 use Rattle.ota_commands.specs.declared.words.Command.{Command}
@@ -20,10 +21,6 @@ use Rattle.ota_commands.specs.declared.words.Command.TheVariants.{Format, Reserv
 use Rattle.ota_commands.specs.declared.faults.Which.TheVariants as which
 use Rattle.ota_commands.specs.declared.faults.Fault.{Fault}
 use Rattle.ota_commands.specs.declared.faults.Fault.TheVariants as fault
-
-element : {A : Type 0} (xs : List A) (k : ℕ) → k < length xs → A
-element [] k below = absurd (omega (arith, below))
-element (x ∷ xs) k below = x
 
 -- what an input that tells says of its octets
 at_octets : (octets : Option (List ℕ)) (o : List ℕ) (P : List ℕ → Type 0) → octets ≡ Some o → IfSome octets P → P o
@@ -67,7 +64,7 @@ module _ {D B C : Type 0} (told : Meaning D B C) (counts : D → Counts) (seen :
     not_read reading = cc (ap reads can.command, reading)
 
     stands : (lane : ℕ) (error : _) → IsRefusedFormat told seen.olds lane error → (site : D) × CanStand lane (length seen.olds) (told.seen (get_or seen.olds lane site))
-    stands lane error refused = let site = element seen.olds lane refused.within in (site, can.stand lane site refused.within)
+    stands lane error refused = let site = element_of seen.olds (omega (arith, refused.within)) in (site, can.stand lane site refused.within)
 
     format_done : (answer : Option Fault) → IfSome answer (Comes told counts seen) → IsDone answer
     format_done None comes = tt
@@ -82,7 +79,7 @@ module _ {D B C : Type 0} (told : Meaning D B C) (counts : D → Counts) (seen :
     format_done (Some (fault.JobDiffers row counter)) comes = absurd (not_read comes.read.command)
     format_done (Some (fault.KeysetDiffers keyset)) comes = absurd (not_read comes.read.command)
     format_done (Some fault.SinkFault) comes = absurd (can.steady.sink comes.1)
-    format_done (Some (fault.SiteFault lane)) comes = let site = element seen.olds lane comes.within in absurd (can.steady.sites lane site site comes.within (comes.risen site site))
+    format_done (Some (fault.SiteFault lane)) comes = let site = element_of seen.olds (omega (arith, comes.within)) in absurd (can.steady.sites lane site site comes.within (comes.risen site site))
     format_done (Some (fault.NotAJournal lane)) (inl comes) =
         let at = stands lane _ comes.1 in absurd (not_another _ _ lane (length seen.olds) refl at.1 (comes.1.refuses at.0 (can.steady.tell lane at.0 comes.1.within)))
     format_done (Some (fault.NotAJournal lane)) (inr comes) = absurd (not_read comes.0.command)
@@ -127,7 +124,7 @@ module _ {D B C : Type 0} (told : Meaning D B C) (counts : D → Counts) (seen :
       where
         at : (k : ℕ) → k < length seen.olds → get_or histories k [] ≡ get_or can.histories k []
         at k within =
-            let site = element seen.olds k within in
+            let site = element_of seen.olds (omega (arith, within)) in
             let mine = hold k site within (can.steady.tell k site within) in
             let its = held k site within in
             one_history k (length seen.olds) (get_or histories k []) (get_or can.histories k []) (told.seen (get_or seen.olds k site))
@@ -136,7 +133,7 @@ module _ {D B C : Type 0} (told : Meaning D B C) (counts : D → Counts) (seen :
     not_other : (lane : ℕ) (error : _) (read : Reading) → IsRefused told seen.olds lane error → ((site : D) → parts_of (journal_head lane (length seen.olds)) (told.seen (get_or seen.olds lane site)) ≡ read)
         → ((parts : List (List ℕ)) (behind : List ℕ) → read ≡ Opened parts behind → ⊥) → ⊥
     not_other lane error read refused is differs =
-        let site = element seen.olds lane refused.within in
+        let site = element_of seen.olds (omega (arith, refused.within)) in
         let open_it = opens lane site read refused.within (is site) in
         differs open_it.1 open_it.0 open_it.2
 
@@ -159,7 +156,7 @@ module _ {D B C : Type 0} (told : Meaning D B C) (counts : D → Counts) (seen :
         let there = subst (λ (h : List (List Entry)). keyset_difference can.plan h ≡ Some keyset) (same_histories comes.histories comes.each comes.hold) differs in
         absurd (cc (there, can.keysets))
     run_done (Some fault.SinkFault) comes = absurd (can.steady.sink comes.1)
-    run_done (Some (fault.SiteFault lane)) comes = let site = element seen.olds lane comes.within in absurd (can.steady.sites lane site site comes.within (comes.risen site site))
+    run_done (Some (fault.SiteFault lane)) comes = let site = element_of seen.olds (omega (arith, comes.within)) in absurd (can.steady.sites lane site site comes.within (comes.risen site site))
     run_done (Some (fault.NotAJournal lane)) (inl comes) = absurd (not_made comes.0)
     run_done (Some (fault.NotAJournal lane)) (inr comes) =
         absurd (not_other lane _ NotALog comes.1 (λ site. comes.1.refuses site (can.steady.tell lane site comes.1.within)) (λ parts behind is. cc is))
@@ -167,7 +164,7 @@ module _ {D B C : Type 0} (told : Meaning D B C) (counts : D → Counts) (seen :
     run_done (Some (fault.WrongLane lane other others)) (rest, first, second, inr comes) =
         absurd (not_other lane _ (OtherHead rest) comes.1 (λ site. comes.1.refuses site (can.steady.tell lane site comes.1.within)) (λ parts behind is. cc is))
     run_done (Some (fault.Damaged lane number)) comes =
-        let site = element seen.olds lane comes.1.within in
+        let site = element_of seen.olds (omega (arith, comes.1.within)) in
         let its = held lane site comes.1.within in
         absurd (written_are_read lane (length seen.olds) (get_or can.histories lane []) (told.seen (get_or seen.olds lane site)) number its.0 its.1 (comes.1.refuses site (can.steady.tell lane site comes.1.within)))
     run_done (Some (fault.Unformatted lane)) comes =

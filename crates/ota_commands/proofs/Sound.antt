@@ -9,6 +9,7 @@ use Rattle.counter_journal.specs.JournalMaking.{IsJournalMade}
 use Rattle.counter_journal.specs.JournalReading.{Holds}
 use Rattle.lane_session.specs.Formatting.{AreFormattedBelow}
 use Rattle.lane_session.specs.Sound.{StandsFor, AreSound, StaySound}
+use Rattle.lane_session.specs.SoundSteps.{no_entries}
 use Rattle.lane_session.specs.SoundLaws.{still_sound, opening_sound, opened_sound, session_sound, formatted_sound, formatting_sound}
 use Rattle.ota_core.specs.declared.jobs.Job.{Job}
 use Rattle.plan_reader.specs.declared.plans.Plan.{Plan}
@@ -20,14 +21,10 @@ use Rattle.ota_commands.specs.declared.words.Command.TheVariants.{Format}
 use Rattle.ota_commands.specs.declared.faults.Fault.{Fault}
 use Rattle.ota_commands.specs.declared.faults.Fault.TheVariants.{Usage, Memory}
 
--- a history without entries
-empty_history : (lane lanes : ℕ) → IsHistory lane lanes []
-empty_history lane lanes = record { legal = tt; of_lane = λ k entry below. absurd (omega (arith, below)) }
-
 -- a journal that stands opens, where the octets were sound before
 opens_now : (lane lanes : ℕ) (old new : List ℕ) (entries : List Entry) → IsJournalMade lane lanes old new → StandsFor lane lanes entries old
     → (now : List Entry) × IsHistory lane lanes now × Holds lane lanes now new
-opens_now lane lanes old new entries (inl made) stands = ([], empty_history lane lanes, made.1)
+opens_now lane lanes old new entries (inl made) stands = ([], no_entries lane lanes, made.1)
 opens_now lane lanes old new entries (inr stood) (inl unmade) = absurd (subst IsMade unmade.0 stood.0)
 opens_now lane lanes old new entries (inr stood) (inr held) = (entries, held.0, subst (Holds lane lanes entries) (sym stood.1) held.1)
 
