@@ -56,16 +56,16 @@ broken_status status = unless ((status == 0x07) || (status == 0x09)) BadStatus
 
 -- the first rule that the entry breaks behind its past
 abbrev pub broken : List Entry → Entry → Option Illegal
-broken past (Open by keyset facts) = unless (not (list_any (is_open_of keyset) past)) OpenedTwice
-broken past (Reserve by keyset counter job tar body) =
+broken past (Open by moment keyset facts) = unless (not (list_any (is_open_of keyset) past)) OpenedTwice
+broken past (Reserve by moment keyset counter job tar name body) =
     option_or (broken_in_use keyset past)
     (option_or (broken_counter counter (next_counter keyset past)) (broken_job past (last_reservation job past)))
-broken past (Done by keyset counter answer) =
+broken past (Done by moment keyset counter answer) =
     option_or (broken_in_use keyset past) (broken_settlement (record { keyset = keyset; counter = counter }) past)
-broken past (Refused by keyset counter status) =
+broken past (Refused by moment keyset counter status) =
     option_or (broken_in_use keyset past)
     (option_or (broken_settlement (record { keyset = keyset; counter = counter }) past) (broken_status status))
-broken past (Close by keyset) = broken_in_use keyset past
+broken past (Close by moment keyset) = broken_in_use keyset past
 
 -- each entry of a past is legal behind those before it
 abbrev pub IsLegalPast : List Entry → Type 0

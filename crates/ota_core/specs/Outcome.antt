@@ -10,8 +10,8 @@ use Rattle.ota_core.specs.declared.outcomes.Outcome.TheVariants as outcome
 
 -- how a reservation stands by its settlement
 abbrev pub settled_by : Reservation → Option Entry → Outcome
-settled_by place (Some (Done by keyset counter answer)) = outcome.Done place.keyset place.counter answer
-settled_by place (Some (Refused by keyset counter status)) = outcome.Refused place.keyset place.counter status
+settled_by place (Some (Done by moment keyset counter answer)) = outcome.Done place.keyset place.counter answer
+settled_by place (Some (Refused by moment keyset counter status)) = outcome.Refused place.keyset place.counter status
 settled_by place _ = outcome.Unsettled place.keyset place.counter
 
 -- what has become of a reservation

@@ -16,4 +16,6 @@ pub struct CardFacts {
     /// The reference of remote application management (ETSI TS 102 226, 5.1).
     pub ram: Tar,
     pub keysets: KeysetList,
+    /// Whether it also takes messages whose reference has two octets, and so scripts of more than 1,024 octets.
+    pub wide: bool,
 }

@@ -8,26 +8,31 @@ use crate::octet_string::Octets;
 use crate::wants::Memory;
 
 /// One thing that happened on a lane. `by` is the number of the sender that made the entry; 0 is the session itself.
+/// `moment` is the number that the clock gave, or that of the entry before where this is greater.
 #[derive(Debug, Drop)]
 pub enum Entry {
     /// The keyset is in use from now on.
     Open {
         by: u32,
+        moment: u64,
         keyset: KeysetId,
         facts: KeysetFacts,
     },
-    /// The counter belongs to the job's packet and to no other.
+    /// The counter belongs to the job's packet and to no other. `name` is that of the campaign, or empty.
     Reserve {
         by: u32,
+        moment: u64,
         keyset: KeysetId,
         counter: Counter,
         job: JobId,
         tar: Tar,
+        name: Octets,
         body: Octets,
     },
     /// The card ran the script and answered it with this compact response (ETSI TS 102 226, 5.2.1).
     Done {
         by: u32,
+        moment: u64,
         keyset: KeysetId,
         counter: Counter,
         answer: Octets,
@@ -35,6 +40,7 @@ pub enum Entry {
     /// The card used the counter up and ran nothing. The status is 07 or 09 (ETSI TS 102 225, 5.2.2).
     Refused {
         by: u32,
+        moment: u64,
         keyset: KeysetId,
         counter: Counter,
         status: u8,
@@ -42,6 +48,7 @@ pub enum Entry {
     /// The keyset is out of use from now on.
     Close {
         by: u32,
+        moment: u64,
         keyset: KeysetId,
     },
 }
@@ -52,31 +59,43 @@ impl Entry {
         ensures { IfOk result (λ made. made ≡ self.now) }
     {
         match self {
-            Entry::Open { by, keyset, facts } => Ok(Entry::Open {
+            Entry::Open {
+                by,
+                moment,
+                keyset,
+                facts,
+            } => Ok(Entry::Open {
                 by: *by,
+                moment: *moment,
                 keyset: *keyset,
                 facts: *facts,
             }),
             Entry::Reserve {
                 by,
+                moment,
                 keyset,
                 counter,
                 job,
                 tar,
+                name,
                 body,
             } => {
+                let name = name.copy()?;
                 let body = body.copy()?;
                 Ok(Entry::Reserve {
                     by: *by,
+                    moment: *moment,
                     keyset: *keyset,
                     counter: *counter,
                     job: *job,
                     tar: *tar,
+                    name,
                     body,
                 })
             }
             Entry::Done {
                 by,
+                moment,
                 keyset,
                 counter,
                 answer,
@@ -84,6 +103,7 @@ impl Entry {
                 let answer = answer.copy()?;
                 Ok(Entry::Done {
                     by: *by,
+                    moment: *moment,
                     keyset: *keyset,
                     counter: *counter,
                     answer,
@@ -91,17 +111,20 @@ impl Entry {
             }
             Entry::Refused {
                 by,
+                moment,
                 keyset,
                 counter,
                 status,
             } => Ok(Entry::Refused {
                 by: *by,
+                moment: *moment,
                 keyset: *keyset,
                 counter: *counter,
                 status: *status,
             }),
-            Entry::Close { by, keyset } => Ok(Entry::Close {
+            Entry::Close { by, moment, keyset } => Ok(Entry::Close {
                 by: *by,
+                moment: *moment,
                 keyset: *keyset,
             }),
         }
@@ -129,4 +152,6 @@ pub enum Illegal {
     AlreadySettled,
     /// It refuses with a status other than 07 and 09.
     BadStatus,
+    /// Its moment is below that of the entry before it: this one.
+    Earlier(u64),
 }
