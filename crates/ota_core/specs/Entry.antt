@@ -7,7 +7,7 @@ use Rattle.ota_core.specs.declared.keysets.KeysetFacts.{KeysetFacts}
 use Rattle.ota_core.specs.declared.entries.Entry.{Entry}
 use Rattle.ota_core.specs.declared.entries.Entry.TheVariants.{Open, Reserve, Done, Refused, Close}
 
--- a counter of a keyset
+-- a counter of a keyset, as an entry reserves it
 pub record Reservation : Type 0 where
   pub keyset : Keyset
   pub counter : ℕ
@@ -19,6 +19,22 @@ keyset_of (Reserve by moment keyset counter job tar name body) = keyset
 keyset_of (Done by moment keyset counter answer) = keyset
 keyset_of (Refused by moment keyset counter status) = keyset
 keyset_of (Close by moment keyset) = keyset
+
+-- the number of the sender that made the entry
+abbrev pub by_of : Entry → ℕ
+by_of (Open by moment keyset facts) = by
+by_of (Reserve by moment keyset counter job tar name body) = by
+by_of (Done by moment keyset counter answer) = by
+by_of (Refused by moment keyset counter status) = by
+by_of (Close by moment keyset) = by
+
+-- the moment at which the entry was made, as the clock gave it
+abbrev pub moment_of : Entry → ℕ
+moment_of (Open by moment keyset facts) = moment
+moment_of (Reserve by moment keyset counter job tar name body) = moment
+moment_of (Done by moment keyset counter answer) = moment
+moment_of (Refused by moment keyset counter status) = moment
+moment_of (Close by moment keyset) = moment
 
 -- the facts with which the entry opens the keyset
 abbrev pub facts_in : Keyset → Entry → Option KeysetFacts
@@ -40,6 +56,11 @@ abbrev pub counter_in : Keyset → Entry → Option ℕ
 counter_in keyset (Open by moment opened facts) = if is_same_keyset opened keyset then Some facts.base else None
 counter_in keyset (Reserve by moment reserved counter job tar name body) = if is_same_keyset reserved keyset then Some counter else None
 counter_in keyset _ = None
+
+-- the counter that the entry reserves
+abbrev pub reserved_by : Entry → Option Reservation
+reserved_by (Reserve by moment keyset counter job tar name body) = Some (record { keyset = keyset; counter = counter })
+reserved_by _ = None
 
 -- the reservation that the entry makes for the job
 abbrev pub reservation_in : JobId → Entry → Option Reservation

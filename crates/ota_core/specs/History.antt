@@ -3,12 +3,12 @@ use Rattle.std.specs.Prelude.{◌≡◌, ℕ, ◌+◌, ◌≤◌, nat_le, Bool, 
 use Rattle.std.specs.Option.{option_or}
 use Rattle.std.specs.List.{list_any, flat_map, filter_map}
 use Rattle.ota_core.specs.Keyset.{Keyset}
-use Rattle.ota_core.specs.Entry.{Reservation, is_open_of, is_close_of, counter_in, reservation_in, is_reserve_of, is_refusal_of, is_settlement_of}
+use Rattle.ota_core.specs.Entry.{Reservation, moment_of, is_open_of, is_close_of, counter_in, reservation_in, is_reserve_of, is_refusal_of, is_settlement_of}
 use Rattle.ota_core.specs.declared.jobs.JobId.{JobId}
 use Rattle.ota_core.specs.declared.entries.Entry.{Entry}
 use Rattle.ota_core.specs.declared.entries.Entry.TheVariants.{Open, Reserve, Done, Refused, Close}
 use Rattle.ota_core.specs.declared.entries.Illegal.{Illegal}
-use Rattle.ota_core.specs.declared.entries.Illegal.TheVariants.{NotOpened, OpenedTwice, Closed, Exhausted, NotNext, JobTaken, NotReserved, AlreadySettled, BadStatus}
+use Rattle.ota_core.specs.declared.entries.Illegal.TheVariants.{NotOpened, OpenedTwice, Closed, Exhausted, NotNext, JobTaken, NotReserved, AlreadySettled, BadStatus, Earlier}
 
 -- the first answer that f gives along the list
 abbrev pub first_some : {A B : Type 0} → (A → Option B) → List A → Option B
@@ -54,18 +54,27 @@ broken_settlement place past =
 abbrev pub broken_status : ℕ → Option Illegal
 broken_status status = unless ((status == 0x07) || (status == 0x09)) BadStatus
 
--- the first rule that the entry breaks behind its past
-abbrev pub broken : List Entry → Entry → Option Illegal
-broken past (Open by moment keyset facts) = unless (not (list_any (is_open_of keyset) past)) OpenedTwice
-broken past (Reserve by moment keyset counter job tar name body) =
+-- the first rule of keysets, counters and jobs that the entry breaks behind its past
+abbrev pub broken_in_order : List Entry → Entry → Option Illegal
+broken_in_order past (Open by moment keyset facts) = unless (not (list_any (is_open_of keyset) past)) OpenedTwice
+broken_in_order past (Reserve by moment keyset counter job tar name body) =
     option_or (broken_in_use keyset past)
     (option_or (broken_counter counter (next_counter keyset past)) (broken_job past (last_reservation job past)))
-broken past (Done by moment keyset counter answer) =
+broken_in_order past (Done by moment keyset counter answer) =
     option_or (broken_in_use keyset past) (broken_settlement (record { keyset = keyset; counter = counter }) past)
-broken past (Refused by moment keyset counter status) =
+broken_in_order past (Refused by moment keyset counter status) =
     option_or (broken_in_use keyset past)
     (option_or (broken_settlement (record { keyset = keyset; counter = counter }) past) (broken_status status))
-broken past (Close by moment keyset) = broken_in_use keyset past
+broken_in_order past (Close by moment keyset) = broken_in_use keyset past
+
+-- no entry has a moment below that of the entry before it
+abbrev pub broken_moment : List Entry → ℕ → Option Illegal
+broken_moment [] moment = None
+broken_moment (last ∷ past) moment = unless (nat_le (moment_of last) moment) (Earlier (moment_of last))
+
+-- the first rule that the entry breaks behind its past; that of the moments is tried last
+abbrev pub broken : List Entry → Entry → Option Illegal
+broken past entry = option_or (broken_in_order past entry) (broken_moment past (moment_of entry))
 
 -- each entry of a past is legal behind those before it
 abbrev pub IsLegalPast : List Entry → Type 0

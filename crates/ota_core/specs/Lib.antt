@@ -4,6 +4,8 @@ pub mod KeysetList
 pub mod Job
 pub mod Entry
 pub mod History
+pub mod HistoryLaws
+pub mod Rules
 pub mod HistoryValue
 pub mod Outcome
 pub mod Security

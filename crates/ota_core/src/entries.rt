@@ -1,4 +1,5 @@
 ghost use Rattle.std.specs.Prelude.{◌≡◌, IfOk};
+ghost use Rattle.ota_core.specs.Entry.{by_of, moment_of, keyset_of};
 
 use crate::application::Tar;
 use crate::counters::Counter;
@@ -54,6 +55,45 @@ pub enum Entry {
 }
 
 impl Entry {
+    /// The number of the sender that made the entry; 0 is the session itself.
+    pub fn by(&self) -> u32
+        ensures { result ≡ by_of self.now }
+    {
+        match self {
+            Entry::Open { by, .. } => *by,
+            Entry::Reserve { by, .. } => *by,
+            Entry::Done { by, .. } => *by,
+            Entry::Refused { by, .. } => *by,
+            Entry::Close { by, .. } => *by,
+        }
+    }
+
+    /// The moment at which it was made, as the clock gave it.
+    pub fn moment(&self) -> u64
+        ensures { result ≡ moment_of self.now }
+    {
+        match self {
+            Entry::Open { moment, .. } => *moment,
+            Entry::Reserve { moment, .. } => *moment,
+            Entry::Done { moment, .. } => *moment,
+            Entry::Refused { moment, .. } => *moment,
+            Entry::Close { moment, .. } => *moment,
+        }
+    }
+
+    /// The keyset that it is of.
+    pub fn keyset(&self) -> KeysetId
+        ensures { result ≡ keyset_of self.now }
+    {
+        match self {
+            Entry::Open { keyset, .. } => *keyset,
+            Entry::Reserve { keyset, .. } => *keyset,
+            Entry::Done { keyset, .. } => *keyset,
+            Entry::Refused { keyset, .. } => *keyset,
+            Entry::Close { keyset, .. } => *keyset,
+        }
+    }
+
     /// The same entry once more.
     pub fn copy(&self) -> Result<Entry, Memory>
         ensures { IfOk result (λ made. made ≡ self.now) }

@@ -6,7 +6,7 @@ ghost use Rattle.std.specs.Option.{option_or};
 ghost use Rattle.std.specs.Result.{result_err};
 ghost use Rattle.std.specs.List.{list_any};
 ghost use Rattle.ota_core.specs.Entry.{is_open_of};
-ghost use Rattle.ota_core.specs.History.{unless, broken, broken_in_use, broken_counter, broken_job, broken_settlement, broken_status, next_counter, last_reservation};
+ghost use Rattle.ota_core.specs.History.{unless, broken, broken_in_order, broken_moment, broken_in_use, broken_counter, broken_job, broken_settlement, broken_status, next_counter, last_reservation};
 
 use crate::counters::Counter;
 use crate::entries::{Entry, Illegal};
@@ -20,9 +20,17 @@ use crate::past::{
 /// The last counter that may be reserved.
 const LAST_COUNTER: u64 = 0xFF_FFFF_FFFE;
 
-/// Whether the entry may follow the entries.
+/// Whether the entry may follow the entries. That its moment isn't below the last one is tried last.
 pub(crate) fn may_follow(entries: &[Entry], entry: &Entry) -> Result<(), Illegal>
     ensures { result_err result ≡ broken (reverse entries.now) entry.now }
+{
+    comes_in_order(entries, entry)?;
+    is_not_earlier(entries, entry.moment())
+}
+
+/// Whether the entry keeps the rules of keysets, counters and jobs behind the entries.
+fn comes_in_order(entries: &[Entry], entry: &Entry) -> Result<(), Illegal>
+    ensures { result_err result ≡ broken_in_order (reverse entries.now) entry.now }
 {
     match entry {
         Entry::Open { keyset, .. } => not_opened(entries, *keyset),
@@ -139,6 +147,15 @@ fn awaits_settlement(entries: &[Entry], place: Place) -> Result<(), Illegal>
         return Err(Illegal::AlreadySettled);
     }
     Ok(())
+}
+
+fn is_not_earlier(entries: &[Entry], moment: u64) -> Result<(), Illegal>
+    ensures { result_err result ≡ broken_moment (reverse entries.now) moment }
+{
+    match entries.last() {
+        Some(last) if last.moment() > moment => Err(Illegal::Earlier(last.moment())),
+        _ => Ok(()),
+    }
 }
 
 #[cfg(test)]

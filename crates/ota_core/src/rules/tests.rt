@@ -34,6 +34,7 @@ fn opened(keyset: KeysetId, base: Counter) -> Result<Entry, Fail> {
     };
     Ok(Entry::Open {
         by: 0,
+        moment: 5,
         keyset,
         facts,
     })
@@ -43,10 +44,12 @@ fn reserved(alloc: Global, keyset: KeysetId, counter: Counter, job: u32) -> Resu
     let body = Octets::from_slice(alloc, &[0x00, 0xa4])?;
     Ok(Entry::Reserve {
         by: 1,
+        moment: 5,
         keyset,
         counter,
         job: JobId { campaign: 7, job },
         tar: Tar([0xb0, 0x00, 0x10]),
+        name: Octets::from_slice(alloc, b"spring")?,
         body,
     })
 }
@@ -55,6 +58,7 @@ fn done(alloc: Global, keyset: KeysetId, counter: Counter) -> Result<Entry, Memo
     let answer = Octets::from_slice(alloc, &[0x03, 0x69, 0x81])?;
     Ok(Entry::Done {
         by: 1,
+        moment: 5,
         keyset,
         counter,
         answer,
@@ -64,6 +68,7 @@ fn done(alloc: Global, keyset: KeysetId, counter: Counter) -> Result<Entry, Memo
 fn refused(keyset: KeysetId, counter: Counter, status: u8) -> Entry {
     Entry::Refused {
         by: 1,
+        moment: 5,
         keyset,
         counter,
         status,
@@ -115,6 +120,15 @@ fn each_rule_is_named(rt: HostRuntime) -> Result<(), Fail> {
         (
             Entry::Close {
                 by: 0,
+                moment: 4,
+                keyset: first
+            },
+            Err(Illegal::Earlier(5))
+        ),
+        (
+            Entry::Close {
+                by: 0,
+                moment: 5,
                 keyset: first
             },
             Ok(())

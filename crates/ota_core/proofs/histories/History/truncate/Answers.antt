@@ -1,4 +1,4 @@
-use Rattle.ota_core.proofs.HistoryLemmas.{IsLegal-take}
+use Rattle.ota_core.specs.HistoryLaws.{IsLegal-take}
 use Rattle.ota_core.proofs.histories.History.truncate.Goals as goal
 
 pub invariant_of-self : goal.invariant_of-self

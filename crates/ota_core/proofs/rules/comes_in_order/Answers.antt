@@ -1,4 +1,4 @@
-use Rattle.ota_core.proofs.rules.may_follow.Goals as goal
+use Rattle.ota_core.proofs.rules.comes_in_order.Goals as goal
 
 pub returns-in-Open : goal.returns-in-Open
 returns-in-Open c = rw c.in-Open.is c.not_opened.ensures
