@@ -1,2 +1,3 @@
 pub mod KeysetListLemmas
 pub mod HistoryLemmas
+pub mod RuleLaws

@@ -34,6 +34,7 @@ card_with card kvn kic kid =
       rfm = 0xb0 ∷ 0x00 ∷ 0x10 ∷ [];
       ram = 0x00 ∷ 0x00 ∷ 0x00 ∷ [];
       keysets = (kvn, facts) ∷ [];
+      wide = false;
     }
 
 -- the plan of this one card

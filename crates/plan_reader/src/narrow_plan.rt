@@ -66,6 +66,7 @@ fn make_plan(alloc: Global, fields: &Fields) -> Result<Plan, Memory>
         rfm: Tar([0xb0, 0x00, 0x10]),
         ram: Tar([0x00, 0x00, 0x00]),
         keysets,
+        wide: false,
     })?;
     Ok(Plan {
         campaign: fields.campaign,

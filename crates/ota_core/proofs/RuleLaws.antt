@@ -1,0 +1,290 @@
+-- A legal history keeps each rule. A law on the past, newest first, comes first, and then that of the history.
+use Rattle.std.proofs.Common.{◌≡◌, ℕ, ◌+◌, ◌<◌, ◌≤◌, nat_le, not, Bool, true, false, ◌==◌, ◌&&◌, ◌||◌, if◌then◌else◌, Option, Some, None, is_some, unwrap_or, List, [], ◌∷◌, ◌++◌, length, reverse, refl, sym, ap, ◌∙◌, subst, arith, append_assoc}
+use Rattle.std.specs.Option.{option_or}
+use Rattle.std.specs.List.{list_any, filter_map, range_with_len}
+use Rattle.std.proofs.lemmas.Bool.{or_parts}
+use Rattle.std.proofs.lemmas.Bool.Decides.{nat_tests}
+use Rattle.std.proofs.lemmas.Grind.{common_steps}
+use Rattle.std.proofs.lemmas.List.{reverse-append, reverse-reverse}
+use Rattle.std.proofs.lemmas.List.Folds.{list_any-append}
+use Rattle.ota_core.specs.Keyset.{Keyset, is_same_keyset}
+use Rattle.ota_core.specs.Entry.{Reservation, keyset_of, moment_of, counter_in, facts_in, is_open_of, is_close_of, reserved_by, reservation_in, is_reserve_of, is_refusal_of, is_settlement_of}
+use Rattle.ota_core.specs.History.{broken, broken_in_order, broken_in_use, broken_settlement, broken_status, broken_job, broken_moment, unless, next_counter, last_reservation, first_some, IsLegalPast, IsLegal}
+use Rattle.ota_core.specs.HistoryLaws.{both_hold, in_order, not_earlier, unless-holds, not-holds, in_use-opened, in_use-not_closed, is_in_use, reserves_next, legal_past_behind, is_same_keyset-true, is_same_keyset-refl, is_same_place-true}
+use Rattle.ota_core.specs.Rules.{is_of, counter_reserved, OpenStandsFirst, OpenStandsOnce, NothingFollowsClose, NoCounterTwice, CountersFollow, EarlierIsRefused, SettledOnceReserved, MomentsNeverFall}
+use Rattle.ota_core.specs.declared.jobs.JobId.{JobId}
+use Rattle.ota_core.specs.declared.keysets.KeysetFacts.{KeysetFacts}
+use Rattle.ota_core.specs.declared.entries.Entry.{Entry}
+use Rattle.ota_core.specs.declared.entries.Entry.TheVariants.{Open, Reserve, Done, Refused, Close}
+use Rattle.ota_core.specs.declared.entries.Illegal.{Illegal}
+
+apart : {test : Bool} → test ≡ true → test ≡ false → ⊥
+apart is isnt = cc
+
+-- ---- tests over parts of a list
+
+any-reverse : (p : Entry → Bool) (entries : List Entry) → list_any p (reverse entries) ≡ list_any p entries
+any-reverse p [] = refl
+any-reverse p (entry ∷ entries) = rw (reverse-append (entry ∷ []) entries, list_any-append p (reverse entries) (entry ∷ []), any-reverse p entries) (swap (list_any p entries) (p entry))
+  where
+    swap : (a b : Bool) → (a || (b || false)) ≡ (b || a)
+    swap true true = refl
+    swap true false = refl
+    swap false true = refl
+    swap false false = refl
+
+any-older : (p : Entry → Bool) (newer older : List Entry) → list_any p older ≡ true → list_any p (newer ++ older) ≡ true
+any-older p newer older has = rw (list_any-append p newer older, has) (behind (list_any p newer))
+  where
+    behind : (a : Bool) → (a || true) ≡ true
+    behind true = refl
+    behind false = refl
+
+none-older : (p : Entry → Bool) (newer older : List Entry) → list_any p (newer ++ older) ≡ false → list_any p older ≡ false
+none-older p newer older none = (or_parts (list_any p newer) (list_any p older) (rw (← list_any-append p newer older) none)).1
+
+both_false : (a b : Bool) → a ≡ false → b ≡ false → (a || b) ≡ false
+both_false a b first second = rw (first, second) refl
+
+-- the past of an entry in a history
+past-split : (before after : List Entry) (entry : Entry) → reverse (before ++ entry ∷ after) ≡ reverse after ++ entry ∷ reverse before
+past-split before after entry = rw (reverse-append before (entry ∷ after), reverse-append (entry ∷ []) after, append_assoc) refl
+
+legal-split : (history before after : List Entry) (entry : Entry) → IsLegal history → history ≡ before ++ entry ∷ after
+    → IsLegalPast (reverse after ++ entry ∷ reverse before)
+legal-split history before after entry legal is = rw (← past-split before after entry) (subst (λ h. IsLegal h) is legal)
+
+legal-there : (history before after : List Entry) (entry : Entry) → IsLegal history → history ≡ before ++ entry ∷ after
+    → IsLegalPast (entry ∷ reverse before)
+legal-there history before after entry legal is = legal_past_behind (reverse after) (entry ∷ reverse before) (legal-split history before after entry legal is)
+
+-- ---- Opens
+
+open_first : (past : List Entry) (entry : Entry) → broken past entry ≡ None → (test : Bool) → is_open_of (keyset_of entry) entry ≡ test
+    → (test || list_any (is_open_of (keyset_of entry)) past) ≡ true
+open_first past entry legal true is = refl
+open_first past entry legal false is = in_use-opened (keyset_of entry) past (is_in_use past entry legal is)
+
+open_once : (past : List Entry) (entry : Entry) (keyset : Keyset) → broken past entry ≡ None → is_open_of keyset entry ≡ true → list_any (is_open_of keyset) past ≡ false
+open_once past (Open by moment opened facts) keyset legal is =
+    subst (λ (k : Keyset). list_any (is_open_of k) past ≡ false) (is_same_keyset-true opened keyset is)
+    (not-holds (list_any (is_open_of opened) past) Illegal.OpenedTwice (in_order past (Open by moment opened facts) legal))
+open_once past (Reserve by moment reserved counter job tar name body) keyset legal is = cc
+open_once past (Done by moment settled counter answer) keyset legal is = cc
+open_once past (Refused by moment settled counter status) keyset legal is = cc
+open_once past (Close by moment closed) keyset legal is = cc
+
+pub open_stands_first : (history : List Entry) → IsLegal history → OpenStandsFirst history
+open_stands_first history legal = λ before after entry is.
+    let there = legal-there history before after entry legal is in
+    let p : Entry → Bool = is_open_of (keyset_of entry) in
+    let found : (p entry || list_any p (reverse before)) ≡ true = open_first (reverse before) entry there.1 (p entry) refl in
+    rw (list_any-append p before (entry ∷ []), ← any-reverse p before) (swap (p entry) (list_any p (reverse before)) found)
+  where
+    swap : (a b : Bool) → (a || b) ≡ true → (b || (a || false)) ≡ true
+    swap true true h = refl
+    swap true false h = refl
+    swap false true h = refl
+    swap false false h = cc
+
+pub open_stands_once : (history : List Entry) → IsLegal history → OpenStandsOnce history
+open_stands_once history legal = λ before after entry keyset is opens.
+    let there = legal-there history before after entry legal is in
+    rw (← any-reverse (is_open_of keyset) before) (open_once (reverse before) entry keyset there.1 opens)
+
+-- ---- Closes
+
+-- an entry of a keyset that is opened and closed breaks a rule
+not_behind_close : (past : List Entry) (entry : Entry) (keyset : Keyset) → broken past entry ≡ None
+    → list_any (is_open_of keyset) past ≡ true → list_any (is_close_of keyset) past ≡ true → is_of keyset entry ≡ false
+not_behind_close past entry keyset legal opened closed = by_test (is_of keyset entry) refl
+  where
+    by_open : (test : Bool) → is_open_of keyset entry ≡ test → keyset_of entry ≡ keyset → ⊥
+    by_open true is same = apart opened (open_once past entry keyset legal is)
+    by_open false is same =
+        apart closed (in_use-not_closed keyset past (subst (λ (k : Keyset). broken_in_use k past ≡ None) same
+        (is_in_use past entry legal (subst (λ (k : Keyset). is_open_of k entry ≡ false) (sym same) is))))
+
+    by_test : (test : Bool) → is_of keyset entry ≡ test → test ≡ false
+    by_test true is = absurd (by_open (is_open_of keyset entry) refl (is_same_keyset-true (keyset_of entry) keyset is))
+    by_test false is = refl
+
+nothing_newer : (newer older : List Entry) (keyset : Keyset) → IsLegalPast (newer ++ older) → list_any (is_open_of keyset) older ≡ true
+    → list_any (is_close_of keyset) older ≡ true → list_any (is_of keyset) newer ≡ false
+nothing_newer [] older keyset legal opened closed = refl
+nothing_newer (entry ∷ newer) older keyset legal opened closed =
+    both_false (is_of keyset entry) (list_any (is_of keyset) newer)
+    (not_behind_close (newer ++ older) entry keyset legal.1 (any-older (is_open_of keyset) newer older opened) (any-older (is_close_of keyset) newer older closed))
+    (nothing_newer newer older keyset legal.0 opened closed)
+
+-- a Close is of a keyset in use
+close_opened : (past : List Entry) (entry : Entry) (keyset : Keyset) → broken past entry ≡ None → is_close_of keyset entry ≡ true → list_any (is_open_of keyset) past ≡ true
+close_opened past (Close by moment closed) keyset legal is =
+    subst (λ (k : Keyset). list_any (is_open_of k) past ≡ true) (is_same_keyset-true closed keyset is)
+    (in_use-opened closed past (is_in_use past (Close by moment closed) legal refl))
+close_opened past (Open by moment opened facts) keyset legal is = cc
+close_opened past (Reserve by moment reserved counter job tar name body) keyset legal is = cc
+close_opened past (Done by moment settled counter answer) keyset legal is = cc
+close_opened past (Refused by moment settled counter status) keyset legal is = cc
+
+pub nothing_follows_close : (history : List Entry) → IsLegal history → NothingFollowsClose history
+nothing_follows_close history legal = λ before after entry keyset is closes.
+    let whole = legal-split history before after entry legal is in
+    let there = legal_past_behind (reverse after) (entry ∷ reverse before) whole in
+    let opened : list_any (is_open_of keyset) (reverse before) ≡ true = close_opened (reverse before) entry keyset there.1 closes in
+    rw (← any-reverse (is_of keyset) after)
+    (nothing_newer (reverse after) (entry ∷ reverse before) keyset whole (any-older (is_open_of keyset) (entry ∷ []) (reverse before) opened) (rw closes refl))
+
+-- ---- moments
+
+pub moments_never_fall : (history : List Entry) → IsLegal history → MomentsNeverFall history
+moments_never_fall history legal = λ before after first second is.
+    let whole : history ≡ (before ++ first ∷ []) ++ second ∷ after = is ∙ sym (append_assoc before (first ∷ []) (second ∷ after)) in
+    let there = legal-there history (before ++ first ∷ []) after second legal whole in
+    let later : broken_moment (first ∷ reverse before) (moment_of second) ≡ None =
+    subst (λ past. broken_moment past (moment_of second) ≡ None) (reverse-append before (first ∷ [])) (not_earlier (reverse (before ++ first ∷ [])) second there.1) in
+    let test : nat_le (moment_of first) (moment_of second) ≡ true = unless-holds (nat_le (moment_of first) (moment_of second)) (Illegal.Earlier (moment_of first)) later in
+    grind (arith, nat_tests, test)
+
+-- ---- counters
+
+-- where the keyset has no Open, no entry is of it
+unopened : (past : List Entry) (keyset : Keyset) → IsLegalPast past → list_any (is_open_of keyset) past ≡ false → list_any (is_of keyset) past ≡ false
+unopened [] keyset legal none = refl
+unopened (entry ∷ past) keyset legal none =
+    let parts = or_parts (is_open_of keyset entry) (list_any (is_open_of keyset) past) none in
+    both_false (is_of keyset entry) (list_any (is_of keyset) past) (by_test (is_of keyset entry) refl parts.0 parts.1) (unopened past keyset legal.0 parts.1)
+  where
+    by_test : (test : Bool) → is_of keyset entry ≡ test → is_open_of keyset entry ≡ false → list_any (is_open_of keyset) past ≡ false → test ≡ false
+    by_test false is opens none = refl
+    by_test true is opens none =
+        let same : keyset_of entry ≡ keyset = is_same_keyset-true (keyset_of entry) keyset is in
+        absurd (apart (in_use-opened keyset past (subst (λ (k : Keyset). broken_in_use k past ≡ None) same
+        (is_in_use past entry legal.1 (subst (λ (k : Keyset). is_open_of k entry ≡ false) (sym same) opens)))) none)
+
+-- the entry that reserves a counter is of its keyset
+reserve_of : (place : Reservation) (entry : Entry) → is_of place.keyset entry ≡ false → is_reserve_of place entry ≡ false
+reserve_of place (Reserve by moment keyset counter job tar name body) other = rw other refl
+reserve_of place (Open by moment keyset facts) other = refl
+reserve_of place (Done by moment keyset counter answer) other = refl
+reserve_of place (Refused by moment keyset counter status) other = refl
+reserve_of place (Close by moment keyset) other = refl
+
+unreserved_past : (past : List Entry) (place : Reservation) → list_any (is_of place.keyset) past ≡ false → list_any (is_reserve_of place) past ≡ false
+unreserved_past [] place none = refl
+unreserved_past (entry ∷ past) place none =
+    let parts = or_parts (is_of place.keyset entry) (list_any (is_of place.keyset) past) none in
+    both_false (is_reserve_of place entry) (list_any (is_reserve_of place) past) (reserve_of place entry parts.0) (unreserved_past past place parts.1)
+
+-- a reserved counter lies below the one that comes next
+pub reserved_below_next : (past : List Entry) (place : Reservation) → IsLegalPast past
+    → list_any (is_reserve_of place) past ≡ true → place.counter < next_counter place.keyset past
+reserved_below_next [] place legal reserved = grind (arith, common_steps, reserved)
+reserved_below_next (Open by moment keyset facts ∷ past) place legal reserved =
+    by_test (is_same_keyset keyset place.keyset) refl (reserved_below_next past place legal.0 reserved)
+  where
+    by_test : (test : Bool) → is_same_keyset keyset place.keyset ≡ test → place.counter < next_counter place.keyset past
+        → place.counter < unwrap_or (option_or (if test then Some facts.base else None) (first_some (counter_in place.keyset) past)) 0 + 1
+    by_test false is below = below
+    by_test true is below =
+        absurd (apart reserved (unreserved_past past place (unopened past place.keyset legal.0 (open_once past (Open by moment keyset facts) place.keyset legal.1 is))))
+reserved_below_next (Reserve by moment keyset counter job tar name body ∷ past) place legal reserved =
+    by_test (is_same_keyset keyset place.keyset) refl (λ again. reserved_below_next past place legal.0 again)
+  where
+    next : counter ≡ next_counter keyset past
+    next = (reserves_next past by moment keyset counter job tar name body legal.1).0
+
+    by_place : (test : Bool) → (counter == place.counter) ≡ test → keyset ≡ place.keyset → (test || list_any (is_reserve_of place) past) ≡ true
+        → (list_any (is_reserve_of place) past ≡ true → place.counter < next_counter place.keyset past) → place.counter < counter + 1
+    by_place true is same found again = grind (arith, nat_tests, is)
+    by_place false is same found again =
+        let below : place.counter < next_counter place.keyset past = again found in
+        let there : counter ≡ next_counter place.keyset past = subst (λ (k : Keyset). counter ≡ next_counter k past) same next in
+        omega (arith, below, there)
+
+    by_test : (test : Bool) → is_same_keyset keyset place.keyset ≡ test
+        → (list_any (is_reserve_of place) past ≡ true → place.counter < next_counter place.keyset past)
+        → place.counter < unwrap_or (option_or (if test then Some counter else None) (first_some (counter_in place.keyset) past)) 0 + 1
+    by_test false is again = again (rw is at reserved)
+    by_test true is again = by_place (counter == place.counter) refl (is_same_keyset-true keyset place.keyset is) (rw is at reserved) again
+reserved_below_next (Done by moment keyset counter answer ∷ past) place legal reserved = reserved_below_next past place legal.0 reserved
+reserved_below_next (Refused by moment keyset counter status ∷ past) place legal reserved = reserved_below_next past place legal.0 reserved
+reserved_below_next (Close by moment keyset ∷ past) place legal reserved = reserved_below_next past place legal.0 reserved
+
+-- an entry behind the reservation of a counter doesn't reserve it
+not_again : (past : List Entry) (entry : Entry) (place : Reservation) → IsLegalPast past → broken past entry ≡ None
+    → list_any (is_reserve_of place) past ≡ true → is_reserve_of place entry ≡ false
+not_again past (Reserve by moment keyset counter job tar name body) place legal may reserved =
+    by_test (is_same_keyset keyset place.keyset && (counter == place.counter)) refl
+  where
+    by_test : (test : Bool) → (is_same_keyset keyset place.keyset && (counter == place.counter)) ≡ test → test ≡ false
+    by_test false is = refl
+    by_test true is =
+        let same = is_same_place-true keyset counter place is in
+        let below : place.counter < next_counter place.keyset past = reserved_below_next past place legal reserved in
+        let there : counter ≡ next_counter place.keyset past =
+        subst (λ (k : Keyset). counter ≡ next_counter k past) same.0 (reserves_next past by moment keyset counter job tar name body may).0 in
+        absurd (omega (arith, below, there, same.1))
+not_again past (Open by moment keyset facts) place legal may reserved = refl
+not_again past (Done by moment keyset counter answer) place legal may reserved = refl
+not_again past (Refused by moment keyset counter status) place legal may reserved = refl
+not_again past (Close by moment keyset) place legal may reserved = refl
+
+none_again : (newer older : List Entry) (place : Reservation) → IsLegalPast (newer ++ older) → list_any (is_reserve_of place) older ≡ true
+    → list_any (is_reserve_of place) newer ≡ false
+none_again [] older place legal reserved = refl
+none_again (entry ∷ newer) older place legal reserved =
+    both_false (is_reserve_of place entry) (list_any (is_reserve_of place) newer)
+    (not_again (newer ++ older) entry place legal.0 legal.1 (any-older (is_reserve_of place) newer older reserved))
+    (none_again newer older place legal.0 reserved)
+
+reserves_itself : (entry : Entry) (place : Reservation) → reserved_by entry ≡ Some place → is_reserve_of place entry ≡ true
+reserves_itself (Reserve by moment keyset counter job tar name body) place is =
+    let same : record { keyset = keyset; counter = counter } ≡ place = inner is in
+    subst (λ (p : Reservation). is_reserve_of p (Reserve by moment keyset counter job tar name body) ≡ true) same (grind (arith, nat_tests, common_steps, is_same_keyset-refl keyset))
+  where
+    inner : {a b : Reservation} → Some a ≡ Some b → a ≡ b
+    inner e = cc
+reserves_itself (Open by moment keyset facts) place is = cc
+reserves_itself (Done by moment keyset counter answer) place is = cc
+reserves_itself (Refused by moment keyset counter status) place is = cc
+reserves_itself (Close by moment keyset) place is = cc
+
+pub no_counter_twice : (history : List Entry) → IsLegal history → NoCounterTwice history
+no_counter_twice history legal = λ before after entry place is reserves.
+    let whole = legal-split history before after entry legal is in
+    rw (← any-reverse (is_reserve_of place) after)
+    (none_again (reverse after) (entry ∷ reverse before) place whole (rw (reserves_itself entry place reserves) refl))
+
+-- ---- settlements
+
+settles : (past : List Entry) (entry : Entry) (place : Reservation) → broken past entry ≡ None → is_settlement_of place entry ≡ true
+    → (list_any (is_reserve_of place) past ≡ true) × (list_any (is_settlement_of place) past ≡ false)
+settles past entry place may is =
+    let free = awaits past entry place may is in
+    let parts = both_hold (unless (list_any (is_reserve_of place) past) Illegal.NotReserved) (unless (not (list_any (is_settlement_of place) past)) Illegal.AlreadySettled) free in
+    (unless-holds (list_any (is_reserve_of place) past) Illegal.NotReserved parts.0, not-holds (list_any (is_settlement_of place) past) Illegal.AlreadySettled parts.1)
+  where
+    this : (keyset : Keyset) (counter : ℕ) (place : Reservation) → (is_same_keyset keyset place.keyset && (counter == place.counter)) ≡ true
+        → (let there : Reservation = record { keyset = keyset; counter = counter } in there) ≡ place
+    this keyset counter place same =
+        let parts = is_same_place-true keyset counter place same in
+        λ i. record { keyset = parts.0 i; counter = parts.1 i }
+
+    awaits : (past : List Entry) (entry : Entry) (place : Reservation) → broken past entry ≡ None → is_settlement_of place entry ≡ true → broken_settlement place past ≡ None
+    awaits past (Done by moment keyset counter answer) place may is =
+        subst (λ (p : Reservation). broken_settlement p past ≡ None) (this keyset counter place is)
+        (both_hold (broken_in_use keyset past) (broken_settlement (record { keyset = keyset; counter = counter }) past) (in_order past (Done by moment keyset counter answer) may)).1
+    awaits past (Refused by moment keyset counter status) place may is =
+        subst (λ (p : Reservation). broken_settlement p past ≡ None) (this keyset counter place is)
+        (both_hold (broken_settlement (record { keyset = keyset; counter = counter }) past) (broken_status status)
+        (both_hold (broken_in_use keyset past) (option_or (broken_settlement (record { keyset = keyset; counter = counter }) past) (broken_status status)) (in_order past (Refused by moment keyset counter status) may)).1).0
+    awaits past (Open by moment keyset facts) place may is = cc
+    awaits past (Reserve by moment keyset counter job tar name body) place may is = cc
+    awaits past (Close by moment keyset) place may is = cc
+
+pub settled_once_reserved : (history : List Entry) → IsLegal history → SettledOnceReserved history
+settled_once_reserved history legal = λ before after entry place is settled.
+    let there = legal-there history before after entry legal is in
+    let found = settles (reverse before) entry place there.1 settled in
+    (rw (← any-reverse (is_reserve_of place) before) found.0, rw (← any-reverse (is_settlement_of place) before) found.1)
