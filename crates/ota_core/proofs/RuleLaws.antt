@@ -5,12 +5,15 @@ use Rattle.std.specs.List.{list_any, filter_map, range_with_len}
 use Rattle.std.proofs.lemmas.Bool.{or_parts}
 use Rattle.std.proofs.lemmas.Bool.Decides.{nat_tests}
 use Rattle.std.proofs.lemmas.Grind.{common_steps}
-use Rattle.std.proofs.lemmas.List.{reverse-append, reverse-reverse}
+use Rattle.std.proofs.lemmas.List.{reverse-append, reverse-reverse, append-nil, length-append, map-id}
+use Rattle.std.proofs.lemmas.List.Elements.{filter_map-append}
+use Rattle.std.proofs.lemmas.List.FromFn.{map-range_with_len_more}
 use Rattle.std.proofs.lemmas.List.Folds.{list_any-append}
 use Rattle.ota_core.specs.Keyset.{Keyset, is_same_keyset}
+use Rattle.ota_core.specs.Job.{is_same_job}
 use Rattle.ota_core.specs.Entry.{Reservation, keyset_of, moment_of, counter_in, facts_in, is_open_of, is_close_of, reserved_by, reservation_in, is_reserve_of, is_refusal_of, is_settlement_of}
 use Rattle.ota_core.specs.History.{broken, broken_in_order, broken_in_use, broken_settlement, broken_status, broken_job, broken_moment, unless, next_counter, last_reservation, first_some, IsLegalPast, IsLegal}
-use Rattle.ota_core.specs.HistoryLaws.{both_hold, in_order, not_earlier, unless-holds, not-holds, in_use-opened, in_use-not_closed, is_in_use, reserves_next, legal_past_behind, is_same_keyset-true, is_same_keyset-refl, is_same_place-true}
+use Rattle.ota_core.specs.HistoryLaws.{both_hold, in_order, not_earlier, unless-holds, not-holds, in_use-opened, in_use-not_closed, is_in_use, reserves_next, legal_past_behind, is_same_keyset-true, is_same_keyset-refl, is_same_job-true, is_same_place-true}
 use Rattle.ota_core.specs.Rules.{is_of, counter_reserved, OpenStandsFirst, OpenStandsOnce, NothingFollowsClose, NoCounterTwice, CountersFollow, EarlierIsRefused, SettledOnceReserved, MomentsNeverFall}
 use Rattle.ota_core.specs.declared.jobs.JobId.{JobId}
 use Rattle.ota_core.specs.declared.keysets.KeysetFacts.{KeysetFacts}
@@ -288,3 +291,269 @@ settled_once_reserved history legal = λ before after entry place is settled.
     let there = legal-there history before after entry legal is in
     let found = settles (reverse before) entry place there.1 settled in
     (rw (← any-reverse (is_reserve_of place) before) found.0, rw (← any-reverse (is_settlement_of place) before) found.1)
+
+-- ---- jobs
+
+-- a refusal settles the counter
+refusal_settles : (place : Reservation) (entry : Entry) → is_refusal_of place entry ≡ true → is_settlement_of place entry ≡ true
+refusal_settles place (Refused by moment keyset counter status) is = is
+refusal_settles place (Open by moment keyset facts) is = cc
+refusal_settles place (Reserve by moment keyset counter job tar name body) is = cc
+refusal_settles place (Done by moment keyset counter answer) is = cc
+refusal_settles place (Close by moment keyset) is = cc
+
+-- a counter that is refused is reserved
+refused_reserved : (past : List Entry) (place : Reservation) → IsLegalPast past → list_any (is_refusal_of place) past ≡ true → list_any (is_reserve_of place) past ≡ true
+refused_reserved [] place legal refused = cc
+refused_reserved (entry ∷ past) place legal refused =
+    any-older (is_reserve_of place) (entry ∷ []) past (by_test (is_refusal_of place entry) refl refused (λ again. refused_reserved past place legal.0 again))
+  where
+    by_test : (test : Bool) → is_refusal_of place entry ≡ test → (test || list_any (is_refusal_of place) past) ≡ true
+        → (list_any (is_refusal_of place) past ≡ true → list_any (is_reserve_of place) past ≡ true) → list_any (is_reserve_of place) past ≡ true
+    by_test true is found again = (settles past entry place legal.1 (refusal_settles place entry is)).0
+    by_test false is found again = again found
+
+-- the counter that an entry reserves for a job isn't refused before it
+reserves_unrefused : (past : List Entry) (entry : Entry) (job : JobId) (place : Reservation) → IsLegalPast (entry ∷ past) → reservation_in job entry ≡ Some place
+    → list_any (is_refusal_of place) (entry ∷ past) ≡ false
+reserves_unrefused past (Reserve by moment keyset counter reserved tar name body) job place legal is = by_test (list_any (is_refusal_of place) past) refl
+  where
+    here : (test : Bool) (there : Reservation) → (if test then Some there else None) ≡ Some place → there ≡ place
+    here true there e = cc
+    here false there e = cc
+
+    itself : is_reserve_of place (Reserve by moment keyset counter reserved tar name body) ≡ true
+    itself = reserves_itself (Reserve by moment keyset counter reserved tar name body) place (ap (λ (p : Reservation). Some p) (here (is_same_job reserved job) (record { keyset = keyset; counter = counter }) is))
+
+    by_test : (test : Bool) → list_any (is_refusal_of place) past ≡ test → test ≡ false
+    by_test false found = refl
+    by_test true found =
+        absurd (apart itself (not_again past (Reserve by moment keyset counter reserved tar name body) place legal.0 legal.1 (refused_reserved past place legal.0 found)))
+reserves_unrefused past (Open by moment keyset facts) job place legal is = cc
+reserves_unrefused past (Done by moment keyset counter answer) job place legal is = cc
+reserves_unrefused past (Refused by moment keyset counter status) job place legal is = cc
+reserves_unrefused past (Close by moment keyset) job place legal is = cc
+
+-- where an entry reserves for a job, the last reservation is refused
+job_is_free : (past : List Entry) (entry : Entry) (job : JobId) (place last : Reservation) → broken past entry ≡ None → reservation_in job entry ≡ Some place
+    → last_reservation job past ≡ Some last → list_any (is_refusal_of last) past ≡ true
+job_is_free past (Reserve by moment keyset counter reserved tar name body) job place last may is found =
+    let same : reserved ≡ job = this (is_same_job reserved job) refl is in
+    let free : broken_job past (last_reservation reserved past) ≡ None = (reserves_next past by moment keyset counter reserved tar name body may).2 in
+    let taken : broken_job past (Some last) ≡ None =
+    subst (λ (o : Option Reservation). broken_job past o ≡ None) found (subst (λ (j : JobId). broken_job past (last_reservation j past) ≡ None) same free) in
+    unless-holds (list_any (is_refusal_of last) past) (Illegal.JobTaken last.counter) taken
+  where
+    this : (test : Bool) → is_same_job reserved job ≡ test → (if test then Some (let p : Reservation = record { keyset = keyset; counter = counter } in p) else None) ≡ Some place → reserved ≡ job
+    this true is e = is_same_job-true reserved job is
+    this false is e = cc
+job_is_free past (Open by moment keyset facts) job place last may is found = cc
+job_is_free past (Done by moment keyset counter answer) job place last may is found = cc
+job_is_free past (Refused by moment keyset counter status) job place last may is found = cc
+job_is_free past (Close by moment keyset) job place last may is found = cc
+
+-- the last reservation of a job is there where one is
+last_there : (newer older : List Entry) (entry : Entry) (job : JobId) (place : Reservation) → reservation_in job entry ≡ Some place
+    → (last : Reservation) × (last_reservation job (newer ++ entry ∷ older) ≡ Some last)
+last_there [] older entry job place is = (place, rw is refl)
+last_there (first ∷ newer) older entry job place is = by_first (reservation_in job first) refl (last_there newer older entry job place is)
+  where
+    by_first : (o : Option Reservation) → reservation_in job first ≡ o → ((last : Reservation) × (last_reservation job (newer ++ entry ∷ older) ≡ Some last))
+        → (last : Reservation) × (option_or o (last_reservation job (newer ++ entry ∷ older)) ≡ Some last)
+    by_first None is behind = behind
+    by_first (Some place) is behind = (place, refl)
+
+-- where the last reservation of a job is refused, each earlier one is, behind itself
+refused_behind : (newer extra older : List Entry) (entry : Entry) (job : JobId) (place last : Reservation) → IsLegalPast (newer ++ entry ∷ older)
+    → reservation_in job entry ≡ Some place → last_reservation job (newer ++ entry ∷ older) ≡ Some last
+    → list_any (is_refusal_of last) (extra ++ (newer ++ entry ∷ older)) ≡ true → list_any (is_refusal_of place) (extra ++ newer) ≡ true
+refused_behind [] extra older entry job place last legal is found refused =
+    let same : place ≡ last = this (rw is at found) in
+    let there : (list_any (is_refusal_of place) extra || list_any (is_refusal_of place) (entry ∷ older)) ≡ true =
+    rw (← list_any-append (is_refusal_of place) extra (entry ∷ older)) (subst (λ (p : Reservation). list_any (is_refusal_of p) (extra ++ entry ∷ older) ≡ true) (sym same) refused) in
+    rw (list_any-append (is_refusal_of place) extra []) (first (list_any (is_refusal_of place) extra) (list_any (is_refusal_of place) (entry ∷ older)) there (reserves_unrefused older entry job place legal is))
+  where
+    this : {a b : Reservation} → Some a ≡ Some b → a ≡ b
+    this e = cc
+
+    first : (a b : Bool) → (a || b) ≡ true → b ≡ false → (a || false) ≡ true
+    first true b h none = refl
+    first false true h none = cc
+    first false false h none = cc
+refused_behind (next ∷ newer) extra older entry job place last legal is found refused = by_next (reservation_in job next) refl found
+    (λ here. refused_behind newer (extra ++ next ∷ []) older entry job place last legal.0 is here (rw (append_assoc extra (next ∷ []) (newer ++ entry ∷ older)) refused))
+    (λ earlier here taken. refused_behind newer [] older entry job place earlier legal.0 is here taken)
+  where
+    by_next : (o : Option Reservation) → reservation_in job next ≡ o → option_or o (last_reservation job (newer ++ entry ∷ older)) ≡ Some last
+        → (last_reservation job (newer ++ entry ∷ older) ≡ Some last → list_any (is_refusal_of place) ((extra ++ next ∷ []) ++ newer) ≡ true)
+        → ((earlier : Reservation) → last_reservation job (newer ++ entry ∷ older) ≡ Some earlier → list_any (is_refusal_of earlier) (newer ++ entry ∷ older) ≡ true → list_any (is_refusal_of place) newer ≡ true)
+        → list_any (is_refusal_of place) (extra ++ next ∷ newer) ≡ true
+    by_next None none here moved again = rw (← append_assoc extra (next ∷ []) newer) (moved here)
+    by_next (Some p) some here moved again =
+        let there = last_there newer older entry job place is in
+        let taken = job_is_free (newer ++ entry ∷ older) next job p there.0 legal.1 some there.1 in
+        any-older (is_refusal_of place) extra (next ∷ newer) (any-older (is_refusal_of place) (next ∷ []) newer (again there.0 there.1 taken))
+
+pub earlier_is_refused : (history : List Entry) → IsLegal history → EarlierIsRefused history
+earlier_is_refused history legal = λ before between after first second job place is reserves again.
+    let whole : history ≡ (before ++ first ∷ between) ++ second ∷ after = is ∙ sym (append_assoc before (first ∷ between) (second ∷ after)) in
+    let there : IsLegalPast (second ∷ reverse (before ++ first ∷ between)) = legal-there history (before ++ first ∷ between) after second legal whole in
+    let past : reverse (before ++ first ∷ between) ≡ reverse between ++ first ∷ reverse before = past-split before between first in
+    let here : IsLegalPast (second ∷ reverse between ++ first ∷ reverse before) = subst (λ p. IsLegalPast (second ∷ p)) past there in
+    let last = last_there (reverse between) (reverse before) first job place reserves in
+    let other = some (reservation_in job second) again in
+    let taken = job_is_free (reverse between ++ first ∷ reverse before) second job other.0 last.0 here.1 other.1 last.1 in
+    rw (← any-reverse (is_refusal_of place) between) (refused_behind (reverse between) [] (reverse before) first job place last.0 here.0 reserves last.1 taken)
+  where
+    some : (o : Option Reservation) → is_some o ≡ true → (p : Reservation) × (o ≡ Some p)
+    some None h = cc
+    some (Some p) h = (p, refl)
+
+-- ---- the counters of a keyset
+
+first_some-append : {A B : Type 0} (f : A → Option B) (xs ys : List A) → first_some f (xs ++ ys) ≡ option_or (first_some f xs) (first_some f ys)
+first_some-append f [] ys = refl
+first_some-append f (x ∷ xs) ys = either_way f (f x) xs ys (first_some-append f xs ys)
+  where
+    either_way : {A B : Type 0} (f : A → Option B) (o : Option B) (xs ys : List A) → first_some f (xs ++ ys) ≡ option_or (first_some f xs) (first_some f ys)
+        → option_or o (first_some f (xs ++ ys)) ≡ option_or (option_or o (first_some f xs)) (first_some f ys)
+    either_way f None xs ys behind = behind
+    either_way f (Some b) xs ys behind = refl
+
+-- the base in facts, where there are some
+abbrev base_in : Option KeysetFacts → Option ℕ
+base_in None = None
+base_in (Some facts) = Some facts.base
+
+some-base : (one other : KeysetFacts) → Some one ≡ Some other → one.base ≡ other.base
+some-base one other e = cc
+
+range_more : (a n j : ℕ) → a + n ≡ j → range_with_len a (n + 1) ≡ range_with_len a n ++ j ∷ []
+range_more a n j is = sym (map-id (range_with_len a (n + 1))) ∙ map-range_with_len_more (λ x. x) a n j is ∙ ap (λ (l : List ℕ). l ++ j ∷ []) (map-id (range_with_len a n))
+
+-- what is reserved of a keyset, oldest first
+abbrev reserved : Keyset → List Entry → List ℕ
+reserved keyset past = filter_map (counter_reserved keyset) (reverse past)
+
+reserved-more : (keyset : Keyset) (entry : Entry) (past : List Entry) → reserved keyset (entry ∷ past) ≡ reserved keyset past ++ filter_map (counter_reserved keyset) (entry ∷ [])
+reserved-more keyset entry past = rw (reverse-append (entry ∷ []) past) (filter_map-append (counter_reserved keyset) (reverse past) (entry ∷ []))
+
+opens-found : (keyset : Keyset) (entry : Entry) (facts : KeysetFacts) → facts_in keyset entry ≡ Some facts
+    → (is_open_of keyset entry ≡ true) × (counter_in keyset entry ≡ Some facts.base) × (counter_reserved keyset entry ≡ None)
+opens-found keyset (Open by moment opened facts) found is = by_test (is_same_keyset opened keyset) refl is
+  where
+    by_test : (test : Bool) → is_same_keyset opened keyset ≡ test → (if test then Some facts else None) ≡ Some found
+        → (is_same_keyset opened keyset ≡ true) × ((if is_same_keyset opened keyset then Some facts.base else None) ≡ Some found.base) × ((let none : Option ℕ = None in none) ≡ None)
+    by_test true same e = (same, rw same (ap base_in e), refl)
+    by_test false same e = cc
+opens-found keyset (Reserve by moment k counter job tar name body) found is = cc
+opens-found keyset (Done by moment k counter answer) found is = cc
+opens-found keyset (Refused by moment k counter status) found is = cc
+opens-found keyset (Close by moment k) found is = cc
+
+any-found : (keyset : Keyset) (entries : List Entry) (facts : KeysetFacts) → first_some (facts_in keyset) entries ≡ Some facts → list_any (is_open_of keyset) entries ≡ true
+any-found keyset [] facts is = cc
+any-found keyset (entry ∷ entries) facts is = by_first (facts_in keyset entry) refl is (λ behind. any-found keyset entries facts behind)
+  where
+    by_first : (o : Option KeysetFacts) → facts_in keyset entry ≡ o → option_or o (first_some (facts_in keyset) entries) ≡ Some facts
+        → (first_some (facts_in keyset) entries ≡ Some facts → list_any (is_open_of keyset) entries ≡ true) → list_any (is_open_of keyset) (entry ∷ entries) ≡ true
+    by_first None is found behind = any-older (is_open_of keyset) (entry ∷ []) entries (behind found)
+    by_first (Some f) is found behind = rw ((opens-found keyset entry f is).0) refl
+
+none_reserved : (keyset : Keyset) (past : List Entry) → list_any (is_of keyset) past ≡ false → reserved keyset past ≡ []
+none_reserved keyset [] none = refl
+none_reserved keyset (entry ∷ past) none =
+    let parts = or_parts (is_of keyset entry) (list_any (is_of keyset) past) none in
+    reserved-more keyset entry past ∙ (λ i. none_reserved keyset past parts.1 i ++ this entry parts.0 i)
+  where
+    this : (entry : Entry) → is_of keyset entry ≡ false → filter_map (counter_reserved keyset) (entry ∷ []) ≡ []
+    this (Reserve by moment k counter job tar name body) other = rw other refl
+    this (Open by moment k facts) other = refl
+    this (Done by moment k counter answer) other = refl
+    this (Refused by moment k counter status) other = refl
+    this (Close by moment k) other = refl
+
+record Follow (keyset : Keyset) (past : List Entry) (base : ℕ) : Type 0 where
+  in_order : reserved keyset past ≡ range_with_len (base + 1) (length (reserved keyset past))
+  last : unwrap_or (first_some (counter_in keyset) past) 0 ≡ base + length (reserved keyset past)
+
+-- an entry that is no Open of the keyset carries its counters on
+follow_on : (keyset : Keyset) (past : List Entry) (entry : Entry) (base : ℕ) → broken past entry ≡ None → is_open_of keyset entry ≡ false → Follow keyset past base → Follow keyset (entry ∷ past) base
+follow_on keyset past (Reserve by moment k counter job tar name body) base may other so_far = by_test (is_same_keyset k keyset) refl
+  where
+    by_test : (test : Bool) → is_same_keyset k keyset ≡ test → Follow keyset (Reserve by moment k counter job tar name body ∷ past) base
+    by_test false is =
+        let same : reserved keyset (Reserve by moment k counter job tar name body ∷ past) ≡ reserved keyset past =
+        reserved-more keyset (Reserve by moment k counter job tar name body) past ∙ rw is (append-nil (reserved keyset past)) in
+        record { in_order = rw same so_far.in_order; last = rw (is, same) so_far.last }
+    by_test true is =
+        let next : counter ≡ base + length (reserved keyset past) + 1 =
+        subst (λ (x : Keyset). counter ≡ next_counter x past) (is_same_keyset-true k keyset is) (reserves_next past by moment k counter job tar name body may).0
+        ∙ ap (λ n. n + 1) so_far.last in
+        let more : reserved keyset (Reserve by moment k counter job tar name body ∷ past) ≡ reserved keyset past ++ counter ∷ [] =
+        reserved-more keyset (Reserve by moment k counter job tar name body) past ∙ rw is refl in
+        let long : length (reserved keyset past ++ counter ∷ []) ≡ length (reserved keyset past) + 1 = length-append (reserved keyset past) (counter ∷ []) in
+        record {
+          in_order = rw (more, long)
+              (ap (λ (l : List ℕ). l ++ counter ∷ []) so_far.in_order
+              ∙ sym (range_more (base + 1) (length (reserved keyset past)) counter (omega (arith, next))));
+          last = rw (is, more, long) (omega (arith, next));
+        }
+follow_on keyset past (Open by moment k facts) base may other so_far =
+    record { in_order = rw same so_far.in_order; last = rw (same, other) so_far.last }
+  where
+    same : reserved keyset (Open by moment k facts ∷ past) ≡ reserved keyset past
+    same = reserved-more keyset (Open by moment k facts) past ∙ append-nil (reserved keyset past)
+follow_on keyset past (Done by moment k counter answer) base may other so_far =
+    record { in_order = rw same so_far.in_order; last = rw same so_far.last }
+  where
+    same : reserved keyset (Done by moment k counter answer ∷ past) ≡ reserved keyset past
+    same = reserved-more keyset (Done by moment k counter answer) past ∙ append-nil (reserved keyset past)
+follow_on keyset past (Refused by moment k counter status) base may other so_far =
+    record { in_order = rw same so_far.in_order; last = rw same so_far.last }
+  where
+    same : reserved keyset (Refused by moment k counter status ∷ past) ≡ reserved keyset past
+    same = reserved-more keyset (Refused by moment k counter status) past ∙ append-nil (reserved keyset past)
+follow_on keyset past (Close by moment k) base may other so_far =
+    record { in_order = rw same so_far.in_order; last = rw same so_far.last }
+  where
+    same : reserved keyset (Close by moment k ∷ past) ≡ reserved keyset past
+    same = reserved-more keyset (Close by moment k) past ∙ append-nil (reserved keyset past)
+
+follow : (keyset : Keyset) (past : List Entry) (facts : KeysetFacts) → IsLegalPast past → first_some (facts_in keyset) (reverse past) ≡ Some facts → Follow keyset past facts.base
+follow keyset [] facts legal is = cc
+follow keyset (entry ∷ past) facts legal is =
+    by_past (first_some (facts_in keyset) (reverse past)) refl
+    (sym (first_some-append (facts_in keyset) (reverse past) (entry ∷ [])) ∙ ap (first_some (facts_in keyset)) (sym (reverse-append (entry ∷ []) past)) ∙ is)
+    (λ before. follow keyset past facts legal.0 before)
+  where
+    nothing : (o : Option ℕ) → o ≡ None → filter_map (λ (x : Option ℕ). x) (o ∷ []) ≡ []
+    nothing None e = refl
+    nothing (Some n) e = cc
+
+    by_entry : (o : Option KeysetFacts) → facts_in keyset entry ≡ o → option_or o None ≡ Some facts → Follow keyset (entry ∷ past) facts.base
+    by_entry None found e = cc
+    by_entry (Some f) found e =
+        let opens = opens-found keyset entry f found in
+        let base : f.base ≡ facts.base = some-base f facts e in
+        let none : reserved keyset (entry ∷ past) ≡ [] =
+        reserved-more keyset entry past
+        ∙ (λ i. none_reserved keyset past (unopened past keyset legal.0 (open_once past entry keyset legal.1 opens.0)) i ++ nothing (counter_reserved keyset entry) opens.2 i) in
+        record { in_order = rw none refl; last = rw (none, opens.1) (omega (arith, base)) }
+
+    not_open : (test : Bool) → is_open_of keyset entry ≡ test → list_any (is_open_of keyset) past ≡ true → test ≡ false
+    not_open false opens opened = refl
+    not_open true opens opened = absurd (apart opened (open_once past entry keyset legal.1 opens))
+
+    by_past : (o : Option KeysetFacts) → first_some (facts_in keyset) (reverse past) ≡ o → option_or o (option_or (facts_in keyset entry) None) ≡ Some facts
+        → (first_some (facts_in keyset) (reverse past) ≡ Some facts → Follow keyset past facts.base) → Follow keyset (entry ∷ past) facts.base
+    by_past None before e again = by_entry (facts_in keyset entry) refl e
+    by_past (Some f) before e again =
+        let opened : list_any (is_open_of keyset) past ≡ true = rw (← any-reverse (is_open_of keyset) past) (any-found keyset (reverse past) f before) in
+        follow_on keyset past entry facts.base legal.1 (not_open (is_open_of keyset entry) refl opened) (again (before ∙ e))
+
+pub counters_follow : (history : List Entry) → IsLegal history → CountersFollow history
+counters_follow history legal = λ keyset facts is.
+    let so_far = follow keyset (reverse history) facts legal (rw reverse-reverse is) in
+    subst (λ (h : List Entry). filter_map (counter_reserved keyset) h ≡ range_with_len (facts.base + 1) (length (filter_map (counter_reserved keyset) h)))
+    (reverse-reverse history) so_far.in_order

@@ -20,8 +20,8 @@ impl fmt::Display for KeyLength {
 
 impl Error for KeyLength {}
 
-/// A key of AES: 16, 24 or 32 octets (FIPS 197, 5). Contracts see the list of them.
-#[derive(Clone, Copy, Debug, PartialEq, Eq)]
+/// A key of AES: 16, 24 or 32 octets (FIPS 197, 5). Contracts see the list of them. Its `Debug` shows no octet.
+#[derive(Clone, Copy, PartialEq, Eq)]
 pub struct KeyBytes {
     /// The key, and behind it zeros.
     octets: [u8; 32],
@@ -66,6 +66,12 @@ impl KeyBytes {
         ensures length { IsTrue (is_key_length (length self.now)) }
     {
         &self.octets[..self.len]
+    }
+}
+
+impl fmt::Debug for KeyBytes {
+    fn fmt<W: fmt::Write>(&self, f: &mut fmt::Formatter<W>) -> fmt::Result {
+        write!(f, "KeyBytes({} octets)", self.len)
     }
 }
 

@@ -1,6 +1,6 @@
 //! What holds of each legal history.
 
-ghost use Rattle.ota_core.specs.Rules.{OpenStandsFirst, OpenStandsOnce, NothingFollowsClose, NoCounterTwice, SettledOnceReserved, MomentsNeverFall};
+ghost use Rattle.ota_core.specs.Rules.{OpenStandsFirst, OpenStandsOnce, NothingFollowsClose, NoCounterTwice, CountersFollow, EarlierIsRefused, SettledOnceReserved, MomentsNeverFall};
 
 use crate::histories::History;
 
@@ -11,6 +11,8 @@ pub fn legal_histories(history: &History)
     ensures open_stands_once { OpenStandsOnce history.now.entries }
     ensures nothing_follows_close { NothingFollowsClose history.now.entries }
     ensures no_counter_twice { NoCounterTwice history.now.entries }
+    ensures counters_follow { CountersFollow history.now.entries }
+    ensures earlier_is_refused { EarlierIsRefused history.now.entries }
     ensures settled_once_reserved { SettledOnceReserved history.now.entries }
     ensures moments_never_fall { MomentsNeverFall history.now.entries }
 {

@@ -1,4 +1,4 @@
-use Rattle.ota_core.proofs.RuleLaws.{open_stands_first, open_stands_once, nothing_follows_close, no_counter_twice, settled_once_reserved, moments_never_fall}
+use Rattle.ota_core.proofs.RuleLaws.{open_stands_first, open_stands_once, nothing_follows_close, no_counter_twice, counters_follow, earlier_is_refused, settled_once_reserved, moments_never_fall}
 use Rattle.ota_core.proofs.laws.legal_histories.Goals as goal
 
 pub returns-clause-open_stands_first : goal.returns-clause-open_stands_first
@@ -12,6 +12,12 @@ returns-clause-nothing_follows_close c = nothing_follows_close _ c.entries-entri
 
 pub returns-clause-no_counter_twice : goal.returns-clause-no_counter_twice
 returns-clause-no_counter_twice c = no_counter_twice _ c.entries-entries.ensures.legal
+
+pub returns-clause-counters_follow : goal.returns-clause-counters_follow
+returns-clause-counters_follow c = counters_follow c.before.args.history.now.entries c.entries-entries.ensures.legal
+
+pub returns-clause-earlier_is_refused : goal.returns-clause-earlier_is_refused
+returns-clause-earlier_is_refused c = earlier_is_refused _ c.entries-entries.ensures.legal
 
 pub returns-clause-settled_once_reserved : goal.returns-clause-settled_once_reserved
 returns-clause-settled_once_reserved c = settled_once_reserved _ c.entries-entries.ensures.legal
