@@ -1,5 +1,5 @@
 -- The narrow form of a plan: one card with one keyset, in eight fixed lines.
-use Rattle.std.specs.Prelude.{◌≡◌, ℕ, nat_lt, ◌==◌, ◌&&◌, ◌≤◌, true, Option, Some, List, [], ◌∷◌, ◌++◌, length, codes, bytes_eq, decimal}
+use Rattle.std.specs.Prelude.{◌≡◌, ℕ, nat_lt, ◌==◌, ◌&&◌, ◌≤◌, true, false, Option, Some, List, [], ◌∷◌, ◌++◌, length, codes, bytes_eq, decimal}
 use Rattle.ota_core.specs.declared.cards.CardFacts.{CardFacts}
 use Rattle.ota_core.specs.declared.keysets.KeysetFacts.{KeysetFacts}
 use Rattle.ota_core.specs.declared.keysets.Mode.TheVariants.{Higher}
