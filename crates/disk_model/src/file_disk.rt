@@ -29,7 +29,7 @@ pub struct FileDisk<R: Files> {
 impl<R: Files + Drop> FileDisk<R> {
     /// The file with this path. It is not opened, and no memory is taken.
     pub fn new(rt: R, path: String) -> FileDisk<R>
-        ensures { ⟦<FileDisk<R> as DiskCalls>⟧.counts result ≡ record { faults = 0; wants = 0 } }
+        ensures { ⟦<FileDisk<R> as DiskCalls>⟧.counts result ≡ record { faults = 0; wants = 0; beside = 0 } }
     {
         FileDisk {
             rt,
@@ -143,7 +143,7 @@ impl<R: Files + Drop> DiskCalls for FileDisk<R> {
 
     ghost told = { untold };
 
-    ghost counts = { λ disk. record { faults = disk.faults; wants = 0 } };
+    ghost counts = { λ disk. record { faults = disk.faults; wants = 0; beside = 0 } };
 
     ghost seen_is_image = { λ disk told. tt };
 
