@@ -28,15 +28,18 @@ module _ (old new : MemState) (P : Images) (first : new.first ≡ old.first)
   -- no effect
   pub none_more : new.effects ≡ old.effects → DiskRun mem_told old new P
   none_more effects = record {
-    later = omega (arith, long);
-    no_more = λ k image le at. subst (λ (Q : Images). Q image) (same k) at;
-    no_fewer = λ k image le at. subst (λ (Q : Images). Q image) (sym (same k)) at;
+    past = record {
+      later = omega (arith, long);
+      no_more = λ k image le at. subst (λ (Q : Images). Q image) (same k) at;
+      no_fewer = λ k image le at. subst (λ (Q : Images). Q image) (sym (same k)) at;
+      beside = λ k le. refl;
+      no_more_choices = λ k choice le at. at;
+      no_fewer_choices = λ k choice le at. at;
+    };
     each = λ k image low high at. start image (subst (λ (Q : Images). Q image) (same k ∙ ap (λ (n : ℕ). IsImage old.first (take n old.effects)) (end k low high) ∙ all_effects old.first old.effects) at);
-    past = λ k le. refl;
     stands = λ k low high. refl;
-    no_more_choices = λ k choice le at. at;
-    no_fewer_choices = λ k choice le at. at;
     choices_stand = λ k choice low high at. at;
+    choices_stay = λ k choice low high at. at;
   }
     where
       long : length new.effects ≡ length old.effects
@@ -52,18 +55,21 @@ module _ (old new : MemState) (P : Images) (first : new.first ≡ old.first)
   pub one_more : (effect : Effect) → new.effects ≡ old.effects ++ effect ∷ []
       → ((image : List ℕ) → images_after (contents old) (IsImage old.first old.effects) effect image → P image) → DiskRun mem_told old new P
   one_more effect effects after = record {
-    later = omega (arith, long);
-    no_more = λ k image le at. subst (λ (Q : Images). Q image) (before k le) at;
-    no_fewer = λ k image le at. subst (λ (Q : Images). Q image) (sym (before k le)) at;
+    past = record {
+      later = omega (arith, long);
+      no_more = λ k image le at. subst (λ (Q : Images). Q image) (before k le) at;
+      no_fewer = λ k image le at. subst (λ (Q : Images). Q image) (sym (before k le)) at;
+      beside = λ k le. refl;
+      no_more_choices = λ k choice le at. at;
+      no_fewer_choices = λ k choice le at. at;
+    };
     each = λ k image low high at. ⊎_elim
         (λ early. start image (subst (λ (Q : Images). Q image) (before k (omega arith) ∙ ap (λ (n : ℕ). IsImage old.first (take n old.effects)) (at_start k low early) ∙ all_effects old.first old.effects) at))
         (λ late. after image (subst (λ (Q : Images). Q image) (same k ∙ ap (λ (n : ℕ). IsImage old.first (take n longer)) (at_end k late high) ∙ all_effects old.first longer ∙ IsImage_more old.first old.effects effect) at))
         (cases_lt k (length old.effects + 1));
-    past = λ k le. refl;
     stands = λ k low high. refl;
-    no_more_choices = λ k choice le at. at;
-    no_fewer_choices = λ k choice le at. at;
     choices_stand = λ k choice low high at. at;
+    choices_stay = λ k choice low high at. at;
   }
     where
       longer : List Effect

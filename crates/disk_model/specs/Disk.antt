@@ -24,18 +24,23 @@ module _ {D B C : Type 0} (told : Meaning D B C) where
   abbrev pub image_now : D → List ℕ → Type 0
   image_now disk = told.image_at disk (told.clock disk)
 
-  -- What stood at the moments up to the call stands as it was. At each moment of the call, its start and its
-  -- end among them, an image has P, and what is beside the disk stands as it was at the start.
-  pub record DiskRun (old new : D) (P : List ℕ → Type 0) : Type 0 where
+  -- What stood at the moments up to a call, or up to the first of several, stands as it was.
+  pub record PastStands (old new : D) : Type 0 where
     pub later : told.clock old ≤ told.clock new
     pub no_more : (k : ℕ) (image : List ℕ) → k ≤ told.clock old → told.image_at new k image → told.image_at old k image
     pub no_fewer : (k : ℕ) (image : List ℕ) → k ≤ told.clock old → told.image_at old k image → told.image_at new k image
-    pub each : (k : ℕ) (image : List ℕ) → told.clock old ≤ k → k ≤ told.clock new → told.image_at new k image → P image
-    pub past : (k : ℕ) → k ≤ told.clock old → told.beside_at new k ≡ told.beside_at old k
-    pub stands : (k : ℕ) → told.clock old ≤ k → k ≤ told.clock new → told.beside_at new k ≡ told.beside_at old (told.clock old)
+    pub beside : (k : ℕ) → k ≤ told.clock old → told.beside_at new k ≡ told.beside_at old k
     pub no_more_choices : (k : ℕ) (choice : C) → k ≤ told.clock old → told.choice_at new k choice → told.choice_at old k choice
     pub no_fewer_choices : (k : ℕ) (choice : C) → k ≤ told.clock old → told.choice_at old k choice → told.choice_at new k choice
+
+  -- At each moment of the call, its start and its end among them, an image has P, and what is beside the disk and what
+  -- may be chosen there stand as they were at the start.
+  pub record DiskRun (old new : D) (P : List ℕ → Type 0) : Type 0 where
+    pub past : PastStands old new
+    pub each : (k : ℕ) (image : List ℕ) → told.clock old ≤ k → k ≤ told.clock new → told.image_at new k image → P image
+    pub stands : (k : ℕ) → told.clock old ≤ k → k ≤ told.clock new → told.beside_at new k ≡ told.beside_at old (told.clock old)
     pub choices_stand : (k : ℕ) (choice : C) → told.clock old ≤ k → k ≤ told.clock new → told.choice_at new k choice → told.choice_at old (told.clock old) choice
+    pub choices_stay : (k : ℕ) (choice : C) → told.clock old ≤ k → k ≤ told.clock new → told.choice_at old (told.clock old) choice → told.choice_at new k choice
 
 -- a disk that tells nothing, and has nothing beside it
 abbrev pub untold : {D : Type 0} → Meaning D (Unit {0}) (Unit {0})

@@ -29,7 +29,7 @@ pub record MemState : Type 0 where
 
 -- a disk that holds these octets, synced, before its first call
 abbrev pub fresh : List ℕ → MemState
-fresh octets = record { first = octets; effects = []; calls = []; failing = []; armed = []; starved = false; counts = record { faults = 0; wants = 0 } }
+fresh octets = record { first = octets; effects = []; calls = []; failing = []; armed = []; starved = false; counts = record { faults = 0; wants = 0; beside = 0 } }
 
 abbrev pub contents : MemState → Contents
 contents disk = contents_after disk.first disk.effects
@@ -58,7 +58,7 @@ next count = min (count + 1) (2 ^ 64 - 1)
 abbrev pub Wants : MemState → MemState → Type 0
 Wants old new = new ≡ record old {
   starved = false;
-  counts = record { faults = old.counts.faults; wants = next old.counts.wants };
+  counts = record { faults = old.counts.faults; wants = next old.counts.wants; beside = old.counts.beside };
 }
 
 -- A call of that kind did this, or failed exactly as it was told to, or found no memory and did nothing.
@@ -67,7 +67,7 @@ Steps old new (Ok _) call effect = (old.starved ≡ false) × (¬ Fails old) × 
 Steps old new (Err Failed) call effect = (old.starved ≡ false) × Fails old × (new ≡ record old {
   calls = old.calls ++ call ∷ [];
   effects = old.effects ++ failure_at old.armed (next_call old) ∷ [];
-  counts = record { faults = next old.counts.faults; wants = old.counts.wants };
+  counts = record { faults = next old.counts.faults; wants = old.counts.wants; beside = old.counts.beside };
 })
 Steps old new (Err Memory) call effect = Wants old new
 

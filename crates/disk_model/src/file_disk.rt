@@ -13,7 +13,8 @@ use std::rt::Files;
 
 /// A real file as a disk. It holds a path, and opens the file for each call unless it is to be kept open. It tells
 /// nothing of its octets, counts its failures, and answers each as `Failed`. A missing file is an empty disk, and a
-/// write to it creates it.
+/// write to it creates it. The first sync of each value syncs the file's folder too, since whoever created the file may
+/// have ended before its name was on the disk.
 #[derive(Drop)]
 pub struct FileDisk<R: Files> {
     rt: R,
@@ -21,22 +22,22 @@ pub struct FileDisk<R: Files> {
     keeps_open: bool,
     // The file, from its first write on, where it is kept open.
     kept: Option<R::File>,
-    // The file was created, and its name may not be on the disk yet.
-    is_new: bool,
+    // The file's name was brought to the disk since this value, or the file, was made.
+    is_named: bool,
     faults: u64,
 }
 
 impl<R: Files + Drop> FileDisk<R> {
     /// The file with this path. It is not opened, and no memory is taken.
     pub fn new(rt: R, path: String) -> FileDisk<R>
-        ensures { ⟦<FileDisk<R> as DiskCalls>⟧.counts result ≡ record { faults = 0; wants = 0 } }
+        ensures { ⟦<FileDisk<R> as DiskCalls>⟧.counts result ≡ record { faults = 0; wants = 0; beside = 0 } }
     {
         FileDisk {
             rt,
             path,
             keeps_open: false,
             kept: None,
-            is_new: false,
+            is_named: false,
             faults: 0,
         }
     }
@@ -51,7 +52,7 @@ impl<R: Files + Drop> FileDisk<R> {
             path: self.path,
             keeps_open: true,
             kept: self.kept,
-            is_new: self.is_new,
+            is_named: self.is_named,
             faults: self.faults,
         }
     }
@@ -108,7 +109,7 @@ impl<R: Files + Drop> FileDisk<R> {
             return Ok(file);
         }
         let (file, is_created) = open_to_write(&self.rt, &self.path)?;
-        self.is_new = self.is_new || is_created;
+        self.is_named = self.is_named && !is_created;
         Ok(file)
     }
 
@@ -124,13 +125,16 @@ impl<R: Files + Drop> FileDisk<R> {
     fn flush(&mut self) -> io::Result<()>
         ensures { self.new.faults ≡ self.old.faults }
     {
-        match &self.kept {
-            Some(file) => file.sync_data()?,
+        let is_there = match &self.kept {
+            Some(file) => {
+                file.sync_data()?;
+                true
+            }
             None => sync_file(&self.rt, &self.path)?,
-        }
-        if self.is_new {
+        };
+        if is_there && !self.is_named {
             sync_folder(&self.rt, &self.path)?;
-            self.is_new = false;
+            self.is_named = true;
         }
         Ok(())
     }
@@ -143,7 +147,7 @@ impl<R: Files + Drop> DiskCalls for FileDisk<R> {
 
     ghost told = { untold };
 
-    ghost counts = { λ disk. record { faults = disk.faults; wants = 0 } };
+    ghost counts = { λ disk. record { faults = disk.faults; wants = 0; beside = 0 } };
 
     ghost seen_is_image = { λ disk told. tt };
 

@@ -22,4 +22,8 @@ pub use mem_disk::MemDisk;
 pub use sim_disk::{SimCalls, SimDisk};
 
 #[cfg(test)]
+mod file_tests;
+#[cfg(test)]
+mod recorded_files;
+#[cfg(test)]
 mod tests;

@@ -54,7 +54,7 @@ impl Model for MemDisk {
       failing = disk.failing.items;
       armed = disk.armed.items;
       starved = disk.starved;
-      counts = record { faults = disk.faults; wants = disk.wants };
+      counts = record { faults = disk.faults; wants = disk.wants; beside = 0 };
     } };
 
     ghost invariant = { λ disk. disk.contents ≡ contents_after disk.first.items disk.log.effects };

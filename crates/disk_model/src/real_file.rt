@@ -82,13 +82,16 @@ pub(crate) fn cut_file<R: Files>(rt: &R, path: &str, len: u64) -> io::Result<()>
     }
 }
 
-/// Brings the file's octets and its length to the disk.
-pub(crate) fn sync_file<R: Files>(rt: &R, path: &str) -> io::Result<()> {
+/// Brings the file's octets and its length to the disk, and says whether there is a file.
+pub(crate) fn sync_file<R: Files>(rt: &R, path: &str) -> io::Result<bool> {
     let mut how = OpenOptions::new();
     how.read(true);
     match rt.open_file(&how, path) {
-        Ok(file) => file.sync_data(),
-        Err(error) if is_missing(&error) => Ok(()),
+        Ok(file) => {
+            file.sync_data()?;
+            Ok(true)
+        }
+        Err(error) if is_missing(&error) => Ok(false),
         Err(error) => Err(error),
     }
 }
