@@ -9,6 +9,9 @@ use Rattle.world_core.specs.Members.{In}
 use Rattle.world_core.specs.Condition.{refused_unless}
 use Rattle.world_core.specs.declared.refusals.NotAllowed.{NotAllowed}
 
+pub true_not_false : true ≡ false → ⊥
+true_not_false e = cc
+
 pub In-left : {X : Type 0} (x : X) (xs ys : List X) → In x xs → In x (xs ++ ys)
 In-left x [] ys h = absurd h
 In-left x (y ∷ xs) ys h = elim h [ inl e ↦ inl e | inr i ↦ inr (In-left x xs ys i) ]
@@ -113,11 +116,6 @@ list_any-from_In p (y ∷ xs) x h passes = elim h [
     or_right : (a b : Bool) → b ≡ true → (a || b) ≡ true
     or_right true b h = refl
     or_right false b h = h
-
--- of two conditions neither is broken
-pub both_hold : {B : Type 0} (o p : Option B) → option_or o p ≡ None → (o ≡ None) × (p ≡ None)
-both_hold None p h = (refl, h)
-both_hold (Some x) p h = cc
 
 pub holds : (test : Bool) (refusal : NotAllowed) → refused_unless test refusal ≡ None → test ≡ true
 holds true refusal h = refl

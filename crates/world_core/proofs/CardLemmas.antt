@@ -7,17 +7,14 @@ use Rattle.ota_core.specs.Keyset.{Keyset, is_same_keyset}
 use Rattle.ota_core.specs.History.{first_some}
 use Rattle.ota_core.specs.declared.cards.CardId.{CardId}
 use Rattle.ota_core.specs.declared.keysets.KeysetFacts.{KeysetFacts}
-use Rattle.ota_core.proofs.HistoryLemmas.{is_same_keyset-true, is_same_keyset-refl}
+use Rattle.ota_core.specs.HistoryLaws.{is_same_keyset-true, is_same_keyset-refl}
 use Rattle.world_core.specs.Members.{In}
 use Rattle.world_core.specs.Packet.{Packet}
 use Rattle.world_core.specs.Card.{CardState, is_card, find_card, log_of, logged, counter_of, stored_counter, facts_under, line_status, IsRisingPast, IsRising}
 use Rattle.world_core.specs.Receiving.{is_next, is_other_key, is_below_level, status_of, is_taken}
 use Rattle.world_core.specs.Headline.{all_lines}
 use Rattle.world_core.specs.declared.lines.Line.{Line}
-use Rattle.world_core.proofs.Basics.{In-left, In-push_cases, In-push, In-reverse, In-from_reverse, In-flat_map, In-from_flat_map}
-
-true_not_false : true ≡ false → ⊥
-true_not_false e = cc
+use Rattle.world_core.proofs.Basics.{true_not_false, In-left, In-push_cases, In-push, In-reverse, In-from_reverse, In-flat_map, In-from_flat_map}
 
 abbrev pub with_lines : CardState → List Line → CardState
 with_lines state lines = record { facts = state.facts; log = state.log ++ lines }

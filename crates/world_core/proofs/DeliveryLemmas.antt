@@ -31,15 +31,15 @@ use Rattle.world_core.proofs.Walks.{logged_nothing}
 
 -- a true report stays true when a log grows
 report_kept : (cards : List CardState) (card : CardId) (lines : List Line) (entry : Entry) → IsTrueReport cards entry → IsTrueReport (logged cards card lines) entry
-report_kept cards card lines (Done by keyset counter answer) h = (h.0, log_of-logged cards card keyset.card lines h.0 h.1, h.2, h.3, h.4)
-report_kept cards card lines (Refused by keyset counter status) h = (h.0, log_of-logged cards card keyset.card lines h.0 h.1, h.2, h.3, h.4)
+report_kept cards card lines (Done by moment keyset counter answer) h = (h.0, log_of-logged cards card keyset.card lines h.0 h.1, h.2, h.3, h.4)
+report_kept cards card lines (Refused by moment keyset counter status) h = (h.0, log_of-logged cards card keyset.card lines h.0 h.1, h.2, h.3, h.4)
 report_kept cards card lines _ h = h
 
 -- a line that a card may add
 pub record IsNewLine (w : WorldState) (state : CardState) (line : Line) : Type 0 where
   pub is_line : IsLine state.facts line
   pub above : (other : Line) → In other state.log → other.keyset ≡ line.keyset → other.counter < line.counter
-  pub reserved : (by : ℕ) × (job : JobId) × In (Reserve by line.keyset line.counter job line.tar line.body) w.history
+  pub reserved : (by : ℕ) × (moment : ℕ) × (job : JobId) × (name : List ℕ) × In (Reserve by moment line.keyset line.counter job line.tar name line.body) w.history
 
 abbrev pub with_line : WorldState → CardId → Line → WorldState
 with_line w card line = record w { cards = logged w.cards card (line ∷ []) }
@@ -103,7 +103,7 @@ sound_only_logged w card state line sound there new = rw append-nil (sound_logge
 -- what the packet of a delivery says
 pub record IsDelivered (w : WorldState) (card : CardId) (packet : Packet) : Type 0 where
   pub card_is : packet.keyset.card ≡ card
-  pub reserved : (by : ℕ) × (job : JobId) × In (Reserve by packet.keyset packet.counter job packet.tar packet.body) w.history
+  pub reserved : (by : ℕ) × (moment : ℕ) × (job : JobId) × (name : List ℕ) × In (Reserve by moment packet.keyset packet.counter job packet.tar name packet.body) w.history
 
 first_piece : (sent : List Sent) (pieces : List ℕ) (reservation : ℕ) (card : CardId) → first_reservation sent pieces ≡ Some reservation
     → list_all (λ piece. is_piece_of card reservation (slice_get sent piece)) pieces ≡ true
@@ -143,7 +143,7 @@ delivered_packet w card pieces packet sound h =
     let entry = packet_at-entry w.history a.0 packet found in
     record {
       card_is = ap (λ (p : Packet). p.keyset.card) (sym same) ∙ sym of.2 ∙ piece.3;
-      reserved = (entry.0, entry.1, slice_get-In w.history a.0 (Reserve entry.0 packet.keyset packet.counter entry.1 packet.tar packet.body) entry.2);
+      reserved = (entry.0, entry.1, entry.2, entry.3, slice_get-In w.history a.0 (Reserve entry.0 entry.1 packet.keyset packet.counter entry.2 packet.tar entry.3 packet.body) entry.4);
     }
 
 -- what the tests of a step that uses the counter up say

@@ -8,14 +8,14 @@ use Rattle.std.proofs.lemmas.Bool.Decides.{nat_tests}
 use Rattle.std.proofs.lemmas.List.Sums.{sum_by-append, sum_by-cons, sum_by_push}
 use Rattle.ota_core.specs.Keyset.{Keyset, is_same_keyset}
 use Rattle.ota_core.specs.Job.{is_same_job}
-use Rattle.ota_core.specs.Entry.{Reservation, reservation_in, is_reserve_of, is_refusal_of}
+use Rattle.ota_core.specs.Entry.{Reservation, reserved_by, reservation_in, is_reserve_of, is_refusal_of}
 use Rattle.ota_core.specs.History.{unless, last_reservation, next_counter, broken, broken_in_use, broken_counter, broken_job, IsLegalPast, IsLegal}
 use Rattle.ota_core.specs.declared.cards.CardFacts.{CardFacts}
 use Rattle.ota_core.specs.declared.jobs.JobId.{JobId}
 use Rattle.ota_core.specs.declared.entries.Illegal.TheVariants.{Exhausted, NotNext, JobTaken}
 use Rattle.ota_core.specs.declared.entries.Entry.{Entry}
 use Rattle.ota_core.specs.declared.entries.Entry.TheVariants.{Open, Reserve, Done, Refused, Close}
-use Rattle.ota_core.proofs.HistoryLemmas.{IsLegal-prefix, is_same_keyset-true, is_same_keyset-refl, is_same_place-true, reserved_below_next}
+use Rattle.ota_core.specs.HistoryLaws.{both_hold, in_order, is_same_keyset-true, is_same_keyset-refl, is_same_job-true, is_same_place-true, reserves_next, IsLegal-prefix}
 use Rattle.world_core.specs.Members.{In}
 use Rattle.world_core.specs.Packet.{reserved_at}
 use Rattle.world_core.specs.Card.{CardState, IsRisingPast, IsCardState}
@@ -23,20 +23,11 @@ use Rattle.world_core.specs.WorldState.{WorldState, issued}
 use Rattle.world_core.specs.Headline.{OneCounter, all_lines, place_of, is_reserve_for, is_run_of, AtMostOnce}
 use Rattle.world_core.specs.Sound.{Differ, IsSound}
 use Rattle.world_core.specs.declared.lines.Line.{Line}
-use Rattle.world_core.proofs.Basics.{In-left, In-right, In-reverse, In-from_reverse, In-map, In-from_flat_map, list_any-In, list_any-from_In, both_hold}
-use Rattle.world_core.proofs.HistoryFacts.{packet_at-entry}
+use Rattle.world_core.proofs.Basics.{In-left, In-right, In-reverse, In-from_reverse, In-map, In-from_flat_map, list_any-In, list_any-from_In, and_then-some}
+use Rattle.world_core.proofs.HistoryFacts.{packet_at-reserved, reserves, reserved_is_next, reserved_below_next}
 use Rattle.world_core.proofs.CardLemmas.{number_of, log_of-In, IsRising-one_line}
 use Rattle.world_core.proofs.SoundLemmas.{legal_history}
 use Rattle.world_core.proofs.Walks.{list_any_reverse}
-
--- a reservation in a legal past has the counter that came next
-next_is : (past : List Entry) (by : ℕ) (keyset : Keyset) (counter : ℕ) (job : JobId) (tar body : List ℕ)
-    → broken past (Reserve by keyset counter job tar body) ≡ None → counter ≡ next_counter keyset past
-next_is past by keyset counter job tar body h =
-    let a = both_hold (broken_in_use keyset past) _ h in
-    let b = both_hold (broken_counter counter (next_counter keyset past)) (broken_job past (last_reservation job past)) a.1 in
-    let d = both_hold (unless _ Exhausted) (unless (counter == next_counter keyset past) (NotNext (next_counter keyset past))) b.0 in
-    grind (arith, nat_tests, common_steps, d.1)
 
 split_at : {X : Type 0} (xs : List X) (i : ℕ) (x : X) → slice_get xs i ≡ Some x → xs ≡ take i xs ++ x ∷ drop (suc i) xs
 split_at [] i x h = cc
@@ -62,23 +53,18 @@ legal_at history j entry legal there =
     let past : IsLegalPast (entry ∷ reverse (take j history)) = subst (λ (h : List Entry). IsLegalPast h) (reverse-append (take j history) (entry ∷ [])) front in
     (past.0, past.1)
 
-reserves : (by : ℕ) (keyset : Keyset) (counter : ℕ) (job : JobId) (tar body : List ℕ)
-    → is_reserve_of (record { keyset = keyset; counter = counter }) (Reserve by keyset counter job tar body) ≡ true
-reserves by keyset counter job tar body = grind (arith, common_steps, nat_tests, is_same_keyset-refl keyset)
-
 -- no counter is reserved twice
-no_second : (history : List Entry) (i j : ℕ) (keyset : Keyset) (counter : ℕ) (by by' : ℕ) (job job' : JobId) (tar tar' body body' : List ℕ) → IsLegal history
-    → slice_get history i ≡ Some (Reserve by keyset counter job tar body) → slice_get history j ≡ Some (Reserve by' keyset counter job' tar' body') → i < j → ⊥
-no_second history i j keyset counter by by' job job' tar tar' body body' legal first second below =
-    let at_j = legal_at history j (Reserve by' keyset counter job' tar' body') legal second in
+no_second : (history : List Entry) (i j : ℕ) (place : Reservation) → IsLegal history
+    → reserved_at history i ≡ Some place → reserved_at history j ≡ Some place → i < j → ⊥
+no_second history i j place legal first second below =
+    let a = and_then-some reserved_by (slice_get history i) place first in
+    let b = and_then-some reserved_by (slice_get history j) place second in
+    let at_j = legal_at history j b.0 legal b.1 in
     let past = reverse (take j history) in
-    let stands : In (Reserve by keyset counter job tar body) past =
-    In-reverse (Reserve by keyset counter job tar body) (take j history) (In-take history i j (Reserve by keyset counter job tar body) first below) in
-    let place : Reservation = record { keyset = keyset; counter = counter } in
-    let reserved : list_any (is_reserve_of place) past ≡ true =
-    list_any-from_In (is_reserve_of place) past (Reserve by keyset counter job tar body) stands (reserves by keyset counter job tar body) in
-    let low : counter < next_counter keyset past = reserved_below_next past place at_j.0 reserved in
-    let equal : counter ≡ next_counter keyset past = next_is past by' keyset counter job' tar' body' at_j.1 in
+    let stands : In a.0 past = In-reverse a.0 (take j history) (In-take history i j a.0 a.1 below) in
+    let reserved : list_any (is_reserve_of place) past ≡ true = list_any-from_In (is_reserve_of place) past a.0 stands (reserves place a.0 a.2) in
+    let low : place.counter < next_counter place.keyset past = reserved_below_next past place at_j.0 reserved in
+    let equal : place.counter ≡ next_counter place.keyset past = reserved_is_next past b.0 place at_j.1 b.2 in
     omega arith
 
 one_place : (i j : ℕ) → (i < j → ⊥) → (j < i → ⊥) → i ≡ j
@@ -89,30 +75,16 @@ one_place i j a b = by_tests (nat_lt i j) refl (nat_lt j i) refl
     by_tests false is true has = absurd (b (grind (arith, nat_tests, has)))
     by_tests false is false has = grind (arith, nat_tests, is, has)
 
-reserved_is : (history : List Entry) (i : ℕ) (by : ℕ) (keyset : Keyset) (counter : ℕ) (job : JobId) (tar body : List ℕ)
-    → slice_get history i ≡ Some (Reserve by keyset counter job tar body) → reserved_at history i ≡ Some (record { keyset = keyset; counter = counter })
-reserved_is history i by keyset counter job tar body h = rw h refl
-
 -- pieces with one keyset and counter are of one reservation
 pub one_counter : (w : WorldState) → IsSound w → OneCounter w
 one_counter w sound a b i j same =
     let p = sound.sent a i in
-    let q = sound.sent b j in
-    let e = packet_at-entry w.history a.reservation p.0 p.1 in
-    let f = packet_at-entry w.history b.reservation q.0 q.1 in
-    let x = reserved_is w.history a.reservation e.0 p.0.keyset p.0.counter e.1 p.0.tar p.0.body e.2 in
-    let y = reserved_is w.history b.reservation f.0 q.0.keyset q.0.counter f.1 q.0.tar q.0.body f.2 in
     let place : Reservation = record { keyset = p.0.keyset; counter = p.0.counter } in
-    let place' : Reservation = record { keyset = q.0.keyset; counter = q.0.counter } in
-    let z : Some place ≡ Some place' = sym x ∙ same ∙ y in
-    let r : place ≡ place' = cc in
-    let k : p.0.keyset ≡ q.0.keyset = ap (λ (s : Reservation). s.keyset) r in
-    let n : p.0.counter ≡ q.0.counter = ap (λ (s : Reservation). s.counter) r in
-    let second : slice_get w.history b.reservation ≡ Some (Reserve f.0 p.0.keyset p.0.counter f.1 q.0.tar q.0.body) =
-    f.2 ∙ ap (λ (s : Reservation). Some (Reserve f.0 s.keyset s.counter f.1 q.0.tar q.0.body)) (sym r) in
+    let first : reserved_at w.history a.reservation ≡ Some place = packet_at-reserved w.history a.reservation p.0 p.1 in
+    let second : reserved_at w.history b.reservation ≡ Some place = sym same ∙ first in
     one_place a.reservation b.reservation
-    (no_second w.history a.reservation b.reservation p.0.keyset p.0.counter e.0 f.0 e.1 f.1 p.0.tar q.0.tar p.0.body q.0.body (legal_history w sound) e.2 second)
-    (no_second w.history b.reservation a.reservation p.0.keyset p.0.counter f.0 e.0 f.1 e.1 q.0.tar p.0.tar q.0.body p.0.body (legal_history w sound) second e.2)
+    (no_second w.history a.reservation b.reservation place (legal_history w sound) first second)
+    (no_second w.history b.reservation a.reservation place (legal_history w sound) second first)
 
 -- cards with one number are one
 one_card : (cards : List CardState) (s t : CardState) → Differ (map number_of cards) → In s cards → In t cards → number_of s ≡ number_of t → s ≡ t
@@ -131,12 +103,12 @@ one_card (first ∷ cards) s t differ i j same = elim i [
 -- the line of a refused reservation
 refused_by : (w : WorldState) (line : Line) (entry : Entry) → IsSound w → In line (all_lines w.cards) → In entry w.history
     → is_refusal_of (place_of line) entry ≡ true → ((line.status ≡ 0x07) ⊎ (line.status ≡ 0x09)) × (line.executed ≡ 0)
-refused_by w line (Open by keyset facts) sound i h is = cc
-refused_by w line (Reserve by keyset counter job tar body) sound i h is = cc
-refused_by w line (Done by keyset counter answer) sound i h is = cc
-refused_by w line (Refused by keyset counter status) sound i h is =
+refused_by w line (Open by moment keyset facts) sound i h is = cc
+refused_by w line (Reserve by moment keyset counter job tar name body) sound i h is = cc
+refused_by w line (Done by moment keyset counter answer) sound i h is = cc
+refused_by w line (Refused by moment keyset counter status) sound i h is =
     let same = is_same_place-true keyset counter (place_of line) is in
-    let other = sound.reports (Refused by keyset counter status) (In-left (Refused by keyset counter status) w.history (unwrap_or w.batch []) h) in
+    let other = sound.reports (Refused by moment keyset counter status) (In-left (Refused by moment keyset counter status) w.history (unwrap_or w.batch []) h) in
     let found = In-from_flat_map (λ (state : CardState). state.log) line w.cards i in
     let stands = log_of-In w.cards keyset.card other.0 other.1 in
     let number : number_of found.0 ≡ number_of stands.0 =
@@ -147,7 +119,7 @@ refused_by w line (Refused by keyset counter status) sound i h is =
     (sym same.0 ∙ sym other.2) (sym same.1 ∙ sym other.3) in
     let status_is : line.status ≡ status = ap (λ (l : Line). l.status) equal ∙ other.4.0 in
     (subst (λ (n : ℕ). (n ≡ 0x07) ⊎ (n ≡ 0x09)) (sym status_is) other.4.1, ap (λ (l : Line). l.executed) equal ∙ other.4.2)
-refused_by w line (Close by keyset) sound i h is = cc
+refused_by w line (Close by moment keyset) sound i h is = cc
 
 pub refused_line : (w : WorldState) (line : Line) → IsSound w → In line (all_lines w.cards) → list_any (is_refusal_of (place_of line)) w.history ≡ true
     → ((line.status ≡ 0x07) ⊎ (line.status ≡ 0x09)) × (line.executed ≡ 0)
@@ -155,20 +127,17 @@ refused_line w line sound i h =
     let found = list_any-In (is_refusal_of (place_of line)) w.history h in
     refused_by w line found.0 sound i found.1 found.2
 
-is_same_job-true : (a b : JobId) → is_same_job a b ≡ true → a ≡ b
-is_same_job-true a b h = grind (arith, common_steps, nat_tests, h)
-
 -- an entry that reserves a counter for a job gives it as the job's reservation
 reserve_gives : (job : JobId) (place : Reservation) (entry : Entry) → is_reserve_for job place entry ≡ true → reservation_in job entry ≡ Some place
-reserve_gives job place (Open by keyset facts) h = cc
-reserve_gives job place (Reserve by keyset counter reserved tar body) h =
+reserve_gives job place (Open by moment keyset facts) h = cc
+reserve_gives job place (Reserve by moment keyset counter reserved tar name body) h =
     let a = and_parts (is_same_job reserved job && is_same_keyset keyset place.keyset) (counter == place.counter) h in
     let b = and_parts (is_same_job reserved job) (is_same_keyset keyset place.keyset) a.0 in
     let n : counter ≡ place.counter = grind (arith, nat_tests, a.1) in
     rw (b.0, is_same_keyset-true keyset place.keyset b.1, n) refl
-reserve_gives job place (Done by keyset counter answer) h = cc
-reserve_gives job place (Refused by keyset counter status) h = cc
-reserve_gives job place (Close by keyset) h = cc
+reserve_gives job place (Done by moment keyset counter answer) h = cc
+reserve_gives job place (Refused by moment keyset counter status) h = cc
+reserve_gives job place (Close by moment keyset) h = cc
 
 -- behind a reservation for the job that isn't refused, no entry reserves for it
 again_if : (past : List Entry) (job reserved : JobId) (keyset : Keyset) (counter : ℕ) (place : Reservation) (t : Bool) → is_same_job reserved job ≡ t
@@ -183,14 +152,13 @@ again_if past job reserved keyset counter place true is free last live =
 
 no_reserve_again : (past : List Entry) (job : JobId) (entry : Entry) (place : Reservation) → broken past entry ≡ None → last_reservation job past ≡ Some place
     → list_any (is_refusal_of place) past ≡ false → reservation_in job entry ≡ None
-no_reserve_again past job (Open by keyset facts) place legal last live = refl
-no_reserve_again past job (Reserve by keyset counter reserved tar body) place legal last live =
-    let a = both_hold (broken_in_use keyset past) _ legal in
-    let b = both_hold (broken_counter counter (next_counter keyset past)) (broken_job past (last_reservation reserved past)) a.1 in
-    again_if past job reserved keyset counter place (is_same_job reserved job) refl b.1 last live
-no_reserve_again past job (Done by keyset counter answer) place legal last live = refl
-no_reserve_again past job (Refused by keyset counter status) place legal last live = refl
-no_reserve_again past job (Close by keyset) place legal last live = refl
+no_reserve_again past job (Open by moment keyset facts) place legal last live = refl
+no_reserve_again past job (Reserve by moment keyset counter reserved tar name body) place legal last live =
+    let next = reserves_next past by moment keyset counter reserved tar name body legal in
+    again_if past job reserved keyset counter place (is_same_job reserved job) refl next.2 last live
+no_reserve_again past job (Done by moment keyset counter answer) place legal last live = refl
+no_reserve_again past job (Refused by moment keyset counter status) place legal last live = refl
+no_reserve_again past job (Close by moment keyset) place legal last live = refl
 
 -- a reservation for the job that isn't refused is the job's last
 live_is_last : (past : List Entry) (job : JobId) (place : Reservation) (entry : Entry) → IsLegalPast past → In entry past → is_reserve_for job place entry ≡ true

@@ -10,7 +10,7 @@ use Rattle.ota_core.specs.Keyset.{Keyset, is_same_keyset}
 use Rattle.ota_core.specs.History.{broken_batch, IsLegal}
 use Rattle.ota_core.specs.declared.entries.Entry.{Entry}
 use Rattle.ota_core.specs.declared.entries.Entry.TheVariants.{Open, Reserve, Done, Refused, Close}
-use Rattle.ota_core.proofs.HistoryLemmas.{IsLegal-prefix, is_same_keyset-true}
+use Rattle.ota_core.specs.HistoryLaws.{both_hold, IsLegal-prefix, IsLegal-batch, is_same_keyset-true}
 use Rattle.world_core.specs.Members.{In}
 use Rattle.world_core.specs.Packet.{Packet, packet_at}
 use Rattle.world_core.specs.Card.{log_of}
@@ -26,8 +26,8 @@ use Rattle.world_core.specs.declared.events.Event.{Event}
 use Rattle.world_core.specs.declared.events.Event.TheVariants as event
 use Rattle.world_core.specs.declared.refusals.NotAllowed.{NotAllowed}
 use Rattle.world_core.specs.declared.refusals.NotAllowed.TheVariants as refusal
-use Rattle.world_core.proofs.Basics.{In-left, In-cases, In-push_cases, slice_get-In, list_all-In, list_any-In, both_hold, holds, none_before}
-use Rattle.world_core.proofs.HistoryFacts.{IsLegal-batch, packet_at-left, IsLegal-refusal}
+use Rattle.world_core.proofs.Basics.{In-left, In-cases, In-push_cases, slice_get-In, list_all-In, list_any-In, holds, none_before}
+use Rattle.world_core.proofs.HistoryFacts.{packet_at-left, IsLegal-refusal}
 use Rattle.world_core.proofs.CardLemmas.{log_of-In}
 use Rattle.world_core.proofs.DeliveryLemmas.{sound_delivered}
 
@@ -47,7 +47,7 @@ kept_whole w up sound = record {
   differ = sound.differ;
   cards = sound.cards;
   reserved = λ line i. (let found = sound.reserved line i in
-      (found.0, found.1, In-left (Reserve found.0 line.keyset line.counter found.1 line.tar line.body) w.history (unwrap_or w.batch []) found.2));
+      (found.0, found.1, found.2, found.3, In-left (Reserve found.0 found.1 line.keyset line.counter found.2 line.tar found.3 line.body) w.history (unwrap_or w.batch []) found.4));
   answers = sound.answers;
   given = sound.given;
   reports = λ entry i. sound.reports entry (rw append-nil at i);
@@ -116,13 +116,13 @@ finished_line w keyset counter status answer sound settling h =
 
 -- a settlement that is answered is true
 answered_true : (w : WorldState) (entry : Entry) → IsSound w
-    → ((by : ℕ) (keyset : Keyset) (counter status : ℕ) → entry ≡ Refused by keyset counter status → (status ≡ 0x07) ⊎ (status ≡ 0x09))
+    → ((by moment : ℕ) (keyset : Keyset) (counter status : ℕ) → entry ≡ Refused by moment keyset counter status → (status ≡ 0x07) ⊎ (status ≡ 0x09))
     → is_answered w.made w.given entry ≡ true → IsTrueReport w.cards entry
-answered_true w (Open by keyset facts) sound legal h = tt
-answered_true w (Reserve by keyset counter job tar body) sound legal h = tt
-answered_true w (Done by keyset counter answer) sound legal h = finished_line w keyset counter 0x00 answer sound (inl refl) h
-answered_true w (Refused by keyset counter status) sound legal h =
-    let settling = legal by keyset counter status refl in
+answered_true w (Open by moment keyset facts) sound legal h = tt
+answered_true w (Reserve by moment keyset counter job tar name body) sound legal h = tt
+answered_true w (Done by moment keyset counter answer) sound legal h = finished_line w keyset counter 0x00 answer sound (inl refl) h
+answered_true w (Refused by moment keyset counter status) sound legal h =
+    let settling = legal by moment keyset counter status refl in
     let line = finished_line w keyset counter status [] sound (inr settling) h in
     let found = log_of-In w.cards keyset.card line.0 line.1 in
     let unrun = ((sound.cards found.0 found.1).lines line.0 found.3).unrun (not_zero line.0.status status line.4.1 settling) in
@@ -130,7 +130,7 @@ answered_true w (Refused by keyset counter status) sound legal h =
   where
     not_zero : (n status : ℕ) → n ≡ status → (status ≡ 0x07) ⊎ (status ≡ 0x09) → n ≢ 0x00
     not_zero n status is settling = elim settling [ inl e ↦ (λ z. omega arith) | inr e ↦ (λ z. omega arith) ]
-answered_true w (Close by keyset) sound legal h = tt
+answered_true w (Close by moment keyset) sound legal h = tt
 
 -- a batch is begun
 sound_begun : (w : WorldState) (batch : List Entry) → IsSound w → begin_refusal w batch ≡ None → IsSound (begun w batch)
@@ -152,7 +152,7 @@ sound_begun w batch sound allowed =
       reports = λ entry i. elim (In-cases entry w.history batch i) [
         | inl old ↦ sound.reports entry (In-left entry w.history (unwrap_or w.batch []) old)
         | inr new ↦ answered_true w entry sound
-            (λ by keyset counter status is. IsLegal-refusal (w.history ++ batch) by keyset counter status legal (subst (λ (x : Entry). In x (w.history ++ batch)) is i))
+            (λ by moment keyset counter status is. IsLegal-refusal (w.history ++ batch) by moment keyset counter status legal (subst (λ (x : Entry). In x (w.history ++ batch)) is i))
             (list_all-In (is_answered w.made w.given) batch entry answered new)
       ];
     }

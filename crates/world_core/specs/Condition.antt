@@ -41,8 +41,8 @@ is_given test made given = list_any (λ position. passes test (slice_get made po
 
 -- a settlement has an answer that reached the gateway
 abbrev pub is_answered : List Made → List ℕ → Entry → Bool
-is_answered made given (entry.Done by keyset counter answer) = is_given (is_answer_with keyset counter 0x00 answer) made given
-is_answered made given (entry.Refused by keyset counter status) = is_given (is_answer_with keyset counter status []) made given
+is_answered made given (entry.Done by moment keyset counter answer) = is_given (is_answer_with keyset counter 0x00 answer) made given
+is_answered made given (entry.Refused by moment keyset counter status) = is_given (is_answer_with keyset counter status []) made given
 is_answered made given _ = true
 
 -- Begin: up, no batch, the batch legal one after the other, and each settlement answered

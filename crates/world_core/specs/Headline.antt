@@ -37,7 +37,7 @@ place_of line = record { keyset = line.keyset; counter = line.counter }
 
 -- the entry reserves this counter for the job
 abbrev pub is_reserve_for : JobId → Reservation → Entry → Bool
-is_reserve_for job place (Reserve by keyset counter reserved tar body) =
+is_reserve_for job place (Reserve by moment keyset counter reserved tar name body) =
     is_same_job reserved job && is_same_keyset keyset place.keyset && (counter == place.counter)
 is_reserve_for job place _ = false
 
@@ -66,8 +66,8 @@ IsUnrun status line = (line.status ≡ status) × ((status ≡ 0x07) ⊎ (status
 
 -- a settlement says what the card's line says
 abbrev pub IsTrueReport : List CardState → Entry → Type 0
-IsTrueReport cards (Done by keyset counter answer) = HasLine cards keyset counter (IsFinished 0x00 answer)
-IsTrueReport cards (Refused by keyset counter status) = HasLine cards keyset counter (IsUnrun status)
+IsTrueReport cards (Done by moment keyset counter answer) = HasLine cards keyset counter (IsFinished 0x00 answer)
+IsTrueReport cards (Refused by moment keyset counter status) = HasLine cards keyset counter (IsUnrun status)
 IsTrueReport cards _ = Unit {0}
 
 -- 'done' and 'refused' stand in the history, and in the batch being written, only with their lines
@@ -77,7 +77,7 @@ TrueReports w = (entry : Entry) → In entry (written w) → IsTrueReport w.card
 -- each line of a card is of a reservation in the history, with its reference and body
 abbrev pub LinesAreReserved : WorldState → Type 0
 LinesAreReserved w = (line : Line) → In line (all_lines w.cards)
-    → (by : ℕ) × (job : JobId) × In (Reserve by line.keyset line.counter job line.tar line.body) w.history
+    → (by : ℕ) × (moment : ℕ) × (job : JobId) × (name : List ℕ) × In (Reserve by moment line.keyset line.counter job line.tar name line.body) w.history
 
 -- each card's log is one that the card can have: within each keyset the counters rise, and each line has its status
 abbrev pub LogsAreSound : WorldState → Type 0

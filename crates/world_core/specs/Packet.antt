@@ -1,8 +1,8 @@
 -- The packet of a reservation, and the pieces in which it leaves.
-use Rattle.std.specs.Prelude.{ℕ, ◌+◌, ◌-◌, ◌*◌, ◌/◌, nat_le, Bool, if◌then◌else◌, Option, Some, None, List, length, slice_get}
+use Rattle.std.specs.Prelude.{ℕ, ◌+◌, ◌-◌, ◌*◌, ◌/◌, nat_le, nat_lt, Bool, if◌then◌else◌, Option, Some, None, List, length, slice_get}
 use Rattle.std.specs.Option.{option_map, option_and_then}
 use Rattle.ota_core.specs.Keyset.{Keyset}
-use Rattle.ota_core.specs.Entry.{Reservation, facts_in}
+use Rattle.ota_core.specs.Entry.{Reservation, facts_in, reserved_by}
 use Rattle.ota_core.specs.History.{first_some}
 use Rattle.ota_core.specs.declared.keysets.KeysetFacts.{KeysetFacts}
 use Rattle.ota_core.specs.declared.entries.Entry.{Entry}
@@ -18,18 +18,13 @@ pub record Packet : Type 0 where
 
 -- the packet of an entry of the history, where that is a reservation
 abbrev pub packet_of : List Entry → Entry → Option Packet
-packet_of history (Reserve by keyset counter job tar body) =
+packet_of history (Reserve by moment keyset counter job tar name body) =
     option_map (λ facts. record { keyset = keyset; counter = counter; tar = tar; body = body; opened = facts }) (first_some (facts_in keyset) history)
 packet_of history _ = None
 
 -- the packet of the reservation at a position of the history
 abbrev pub packet_at : List Entry → ℕ → Option Packet
 packet_at history position = option_and_then (packet_of history) (slice_get history position)
-
--- the counter that an entry reserves
-abbrev pub reserved_by : Entry → Option Reservation
-reserved_by (Reserve by keyset counter job tar body) = Some (record { keyset = keyset; counter = counter })
-reserved_by _ = None
 
 -- the counter that is reserved at a position of the history
 abbrev pub reserved_at : List Entry → ℕ → Option Reservation
@@ -41,10 +36,16 @@ abbrev pub packet_length : Bool → ℕ → ℕ
 packet_length ciphered body = if ciphered then 10 + 16 * ((14 + body + 15) / 16) else 24 + body
 
 -- the messages that a packet of this length leaves in: one of 140 octets, or several whose first has room for 132 octets of
--- the packet, and each other for 134 (3GPP TS 23.040, 9.2.3.24)
-abbrev pub pieces_of_length : ℕ → ℕ
-pieces_of_length octets = if nat_le octets 137 then 1 else 1 + (octets - 132 + 133) / 134
+-- the packet, and each other for 134; with a reference of two octets the first has room for 131, and each other for 133
+-- (3GPP TS 23.040, 9.2.3.24.1 and 9.2.3.24.8)
+abbrev pub pieces_of_length : ℕ → Bool → ℕ
+pieces_of_length octets wide =
+    if nat_le octets 137 then 1 else (if wide then 1 + (octets - 131 + 132) / 133 else 1 + (octets - 132 + 133) / 134)
+
+-- a body of more than 1,024 octets leaves under a reference of two octets
+abbrev pub is_wide : Packet → Bool
+is_wide packet = nat_lt 1024 (length packet.body)
 
 -- the pieces of a packet
 abbrev pub pieces_of : Packet → ℕ
-pieces_of packet = pieces_of_length (packet_length packet.opened.ciphered (length packet.body))
+pieces_of packet = pieces_of_length (packet_length packet.opened.ciphered (length packet.body)) (is_wide packet)

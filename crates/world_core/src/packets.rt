@@ -17,6 +17,14 @@ const FIRST: u64 = 132;
 
 const OTHER: u64 = 134;
 
+/// The same under a reference of two octets.
+const WIDE_FIRST: u64 = 131;
+
+const WIDE_OTHER: u64 = 133;
+
+/// The longest body that leaves under a reference of one octet.
+const LONGEST_SHORT: u64 = 1024;
+
 /// What the packet of a reservation carries, and the facts with which its keyset was opened.
 #[derive(Drop)]
 pub(crate) struct ReservedPacket<'a> {
@@ -50,7 +58,9 @@ impl ReservedPacket<'_> {
     pub(crate) fn pieces(&self) -> u64
         ensures { result ≡ pieces_of self.now }
     {
-        pieces_of_length(packet_length(self.opened.ciphered, self.body.as_slice().len() as u64))
+        let body = self.body.as_slice().len() as u64;
+        let packet = packet_length(self.opened.ciphered, body);
+        pieces_of_length(packet, body > LONGEST_SHORT)
     }
 }
 
@@ -122,12 +132,16 @@ fn packet_length(ciphered: bool, body: u64) -> u64
     }
 }
 
-fn pieces_of_length(octets: u64) -> u64
+fn pieces_of_length(octets: u64, wide: bool) -> u64
     requires { octets < 2 ^ 63 + 64 }
-    ensures { result ≡ pieces_of_length octets }
+    ensures { result ≡ pieces_of_length octets wide }
 {
     if octets <= SINGLE {
         return 1;
     }
-    1 + (octets - FIRST + (OTHER - 1)) / OTHER
+    if wide {
+        1 + (octets - WIDE_FIRST + (WIDE_OTHER - 1)) / WIDE_OTHER
+    } else {
+        1 + (octets - FIRST + (OTHER - 1)) / OTHER
+    }
 }

@@ -40,6 +40,7 @@ fn new_world(alloc: Global) -> Result<World> {
         rfm: RFM,
         ram: Tar([0, 0, 0]),
         keysets,
+        wide: false,
     };
     Ok(World::new(alloc, vec![in alloc; card]?)?)
 }
@@ -50,14 +51,17 @@ fn job_events(alloc: Global, job: u32) -> Result<Vec<Event>> {
     let place = u64::from(job).saturating_sub(1);
     let reserve = Entry::Reserve {
         by: 1,
+        moment: 0,
         keyset: keyset(),
         counter,
         job: JobId { campaign: 7, job },
         tar: RFM,
+        name: Octets::from_slice(alloc, &[])?,
         body: Octets::from_slice(alloc, &[0x00; 22])?,
     };
     let done = Entry::Done {
         by: 1,
+        moment: 0,
         keyset: keyset(),
         counter,
         answer: Octets::from_slice(alloc, &ANSWER)?,
@@ -100,6 +104,7 @@ fn run(alloc: Global, jobs: u32) -> Result<(World, u64)> {
     let mut world = new_world(alloc)?;
     let open = Entry::Open {
         by: 0,
+        moment: 0,
         keyset: keyset(),
         facts: facts()?,
     };

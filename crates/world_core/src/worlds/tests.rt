@@ -52,6 +52,7 @@ fn card(alloc: Global) -> Result<CardFacts, Fail> {
         rfm: Tar([0xb0, 0x00, 0x10]),
         ram: Tar([0x00, 0x00, 0x00]),
         keysets,
+        wide: false,
     })
 }
 
@@ -63,19 +64,23 @@ fn world(alloc: Global) -> Result<World, Fail> {
 fn opened() -> Result<Entry, Fail> {
     Ok(Entry::Open {
         by: 0,
+        moment: 0,
         keyset: keyset(),
         facts: facts()?,
     })
 }
 
 fn reserved(alloc: Global, counter: Counter, job: u32) -> Result<Entry, Memory> {
+    let name = Octets::from_slice(alloc, &[])?;
     let body = Octets::from_slice(alloc, &SCRIPT)?;
     Ok(Entry::Reserve {
         by: 1,
+        moment: 0,
         keyset: keyset(),
         counter,
         job: JobId { campaign: 7, job },
         tar: Tar([0xb0, 0x00, 0x10]),
+        name,
         body,
     })
 }
@@ -174,6 +179,7 @@ fn cut_script_is_not_run_again(rt: HostRuntime) -> Result<(), Fail> {
     assert_eq!(rt; world.made().len(), 1);
     let refused = Entry::Refused {
         by: 1,
+        moment: 0,
         keyset: keyset(),
         counter: Counter(1),
         status: 0x07,
@@ -229,6 +235,7 @@ fn answered_script_is_settled(rt: HostRuntime) -> Result<(), Fail> {
     let answer = Octets::from_slice(alloc, &[0x03, 0x69, 0x81])?;
     let done = Entry::Done {
         by: 1,
+        moment: 0,
         keyset: keyset(),
         counter: Counter(1),
         answer,
