@@ -1,21 +1,22 @@
 -- The laws of arrivals.
-use Rattle.std.proofs.Common.{◌≡◌, ℕ, zero, suc, ◌+◌, ◌-◌, ◌*◌, ◌<◌, ◌≤◌, true, false, cond, eqb, Option, Some, None, List, [], ◌∷◌, ◌++◌, length, take, drop, map, refl, sym, ap, ◌∙◌, arith, subst, length-drop, length-take, inl, inr}
+use Rattle.std.proofs.Common.{◌≡◌, ℕ, zero, suc, ◌+◌, ◌-◌, ◌*◌, ◌/◌, ◌%◌, ◌<◌, ◌≤◌, min, Bool, true, false, add-one, cond, Option, Some, None, List, [], ◌∷◌, ◌++◌, length, take, drop, map, refl, sym, ap, ◌∙◌, arith, subst, length-drop, length-take, inl, inr}
 use Rattle.std.specs.Prelude.{filter, is_some}
 use Rattle.std.proofs.Math.Seq.{take-add}
 use Rattle.std.proofs.Math.Bool.{and-false}
 use Rattle.std.proofs.lemmas.Bool.{cases_eq, both_ways, eq-eqb, ne_eqb, le-leb, or_left, or_parts, or_right}
 use Rattle.std.proofs.lemmas.List.{take_all}
 use Rattle.ota_core.specs.declared.cards.CardId.{CardId}
-use Rattle.ota_core.specs.declared.references.Reference.TheVariants.{Short}
+use Rattle.ota_core.specs.declared.references.Reference.{Reference}
+use Rattle.ota_core.specs.declared.references.Reference.TheVariants.{Short, Wide}
 use Rattle.sms_segments.specs.declared.headers.Header.{Header}
 use Rattle.sms_segments.specs.declared.headers.Header.TheVariants.{Only, Part}
 use Rattle.sms_segments.specs.declared.concatenations.Concatenation.{Concatenation}
 use Rattle.sms_segments.specs.declared.assembling.Push.TheVariants.{Whole, More}
-use Rattle.sms_segments.specs.Cut.{first_header, later_header, octets_at, only_header, piece_of, pieces_count}
-use Rattle.sms_segments.specs.Header.{first_in, header_of, octets_behind}
+use Rattle.sms_segments.specs.Header.{first_in, first_wide_in, header_of, is_wide_reference, octets_behind}
+use Rattle.sms_segments.specs.Cut.{first_header, first_room, later_header, later_room, longest, octets_at, only_header, piece_of, pieces_count}
 use Rattle.sms_segments.specs.Assembled.{OfCard, Pieces, after, answer_by, answer_to, assembled, if_whole, is_whole, joined, no_pieces, piece_by, piece_in, pieces_after, with_piece}
 use Rattle.sms_segments.specs.Arrivals.{FillsLast, concatenation_of, has, is_of, is_piece_of, message_at, named_by}
-use Rattle.sms_segments.proofs.CutLemmas.{last_reaches, octets_at-later, starts_within, two_or_more}
+use Rattle.sms_segments.proofs.CutLemmas.{first_few, last_reaches, later_few, next_start, octets_at-later, starts_within, two_or_more}
 use Rattle.sms_segments.proofs.KeptLemmas.{is_same-self}
 
 -- ---- packets don't mix
@@ -48,27 +49,70 @@ only-read : (element : ℕ) (octets : List ℕ) → 1 ≤ length octets → leng
 only-read element [] some fits = absurd (omega arith)
 only-read element (x ∷ octets) some fits = rw (le-leb (length (only_header element ++ x ∷ octets)) 140 (omega arith), eq-eqb element element refl) refl
 
-first-read : (element reference total : ℕ) (octets : List ℕ) → 1 ≤ length octets → length octets ≤ 132 → 1 ≤ total → header_of element (first_header element reference total ++ octets) ≡ Some (Part (Short reference) total 1)
+high_low : (number : ℕ) → number / 256 * 256 + number % 256 ≡ number
+high_low number = omega arith
+
+first-read : (element : ℕ) (reference : Reference) (total : ℕ) (octets : List ℕ) → 1 ≤ length octets → length octets ≤ first_room (is_wide_reference reference) → 1 ≤ total → header_of element (first_header element reference total ++ octets) ≡ Some (Part reference total 1)
 first-read element reference total [] some fits above = absurd (omega arith)
-first-read element reference total (x ∷ octets) some fits above =
-    rw (le-leb (length (first_header element reference total ++ x ∷ octets)) 140 (omega arith), eq-eqb element element refl, le-leb 1 total above) refl
+first-read element (Short octet) total (x ∷ octets) some fits above =
+    rw (le-leb (length (first_header element (Short octet) total ++ x ∷ octets)) 140 (omega arith), eq-eqb element element refl, le-leb 1 total above) refl
+first-read element (Wide number) total (x ∷ octets) some fits above =
+    rw (le-leb (length (first_header element (Wide number) total ++ x ∷ octets)) 140 (omega arith), eq-eqb element element refl, le-leb 1 total above)
+    (ap (λ n. Some (Part (Wide n) total 1)) (high_low number))
 
-not_first : (element reference total place x : ℕ) (octets : List ℕ) → first_in element (later_header reference total place ++ x ∷ octets) ≡ None
-not_first element reference total place x [] = refl
-not_first element reference total place x (y ∷ []) = refl
-not_first element reference total place x (y ∷ z ∷ octets) = refl
+not_first : (element octet total place x : ℕ) (octets : List ℕ) → first_in element (later_header (Short octet) total place ++ x ∷ octets) ≡ None
+not_first element octet total place x [] = refl
+not_first element octet total place x (y ∷ []) = refl
+not_first element octet total place x (y ∷ z ∷ octets) = refl
 
-later-read : (element reference total place : ℕ) (octets : List ℕ) → 1 ≤ length octets → length octets ≤ 134 → 2 ≤ place → place ≤ total → header_of element (later_header reference total place ++ octets) ≡ Some (Part (Short reference) total place)
+not_short : (element number total place x : ℕ) (octets : List ℕ) → first_in element (later_header (Wide number) total place ++ x ∷ octets) ≡ None
+not_short element number total place x [] = refl
+not_short element number total place x (y ∷ octets) = refl
+
+not_first_wide : (element number total place x : ℕ) (octets : List ℕ) → first_wide_in element (later_header (Wide number) total place ++ x ∷ octets) ≡ None
+not_first_wide element number total place x [] = refl
+not_first_wide element number total place x (y ∷ []) = refl
+not_first_wide element number total place x (y ∷ z ∷ octets) = refl
+
+later-read : (element : ℕ) (reference : Reference) (total place : ℕ) (octets : List ℕ) → 1 ≤ length octets → length octets ≤ later_room (is_wide_reference reference) → 2 ≤ place → place ≤ total → header_of element (later_header reference total place ++ octets) ≡ Some (Part reference total place)
 later-read element reference total place [] some fits later within = absurd (omega arith)
-later-read element reference total place (x ∷ octets) some fits later within =
-    rw (le-leb (length (later_header reference total place ++ x ∷ octets)) 140 (omega arith), not_first element reference total place x octets, le-leb 2 place later, le-leb place total within) refl
+later-read element (Short octet) total place (x ∷ octets) some fits later within =
+    rw (le-leb (length (later_header (Short octet) total place ++ x ∷ octets)) 140 (omega arith), not_first element octet total place x octets, le-leb 2 place later, le-leb place total within) refl
+later-read element (Wide number) total place (x ∷ octets) some fits later within =
+    rw (le-leb (length (later_header (Wide number) total place ++ x ∷ octets)) 140 (omega arith), not_short element number total place x octets, not_first_wide element number total place x octets, le-leb 2 place later, le-leb place total within)
+    (ap (λ n. Some (Part (Wide n) total place)) (high_low number))
+
+first-behind : (element : ℕ) (reference : Reference) (total : ℕ) (octets : List ℕ) → octets_behind (Part reference total 1) (first_header element reference total ++ octets) ≡ octets
+first-behind element (Short octet) total octets = refl
+first-behind element (Wide number) total octets = refl
+
+later-behind : (reference : Reference) (total place : ℕ) (octets : List ℕ) → ¬ (place ≡ 1) → octets_behind (Part reference total place) (later_header reference total place ++ octets) ≡ octets
+later-behind (Short octet) total place octets later = rw (ne_eqb place 1 later) refl
+later-behind (Wide number) total place octets later = rw (ne_eqb place 1 later) refl
+
+some_first : (wide : Bool) → 1 ≤ first_room wide
+some_first false = omega arith
+some_first true = omega arith
+
+least : (room rest n : ℕ) → 1 ≤ room → 1 ≤ rest → n ≡ min room rest → (1 ≤ n) × (n ≤ room)
+least room rest n some more is = (omega (arith, is), omega (arith, is))
 
 -- ---- the pieces of a packet
 
-module _ (card : CardId) (packet : List ℕ) (element reference : ℕ) where
+module _ (card : CardId) (packet : List ℕ) (element : ℕ) (reference : Reference) where
+  abbrev wide : Bool
+  wide = is_wide_reference reference
+
+  -- how many octets stand in the first one, and in a later one
+  abbrev first : ℕ
+  first = first_room wide
+
+  abbrev later_each : ℕ
+  later_each = later_room wide
+
   -- how many there are
   abbrev count : ℕ
-  count = pieces_count (length packet)
+  count = pieces_count (length packet) wide
 
   abbrev whole_of : Concatenation
   whole_of = concatenation_of card packet reference
@@ -79,12 +123,12 @@ module _ (card : CardId) (packet : List ℕ) (element reference : ℕ) where
   -- what is there after the pieces at these places
   abbrev collected : List ℕ → Pieces
   collected [] = no_pieces
-  collected (place ∷ places) = with_piece place (octets_at count packet place) (collected places)
+  collected (place ∷ places) = with_piece place (octets_at wide count packet place) (collected places)
 
-  collected-has : (places : List ℕ) (place : ℕ) → has place places ≡ true → collected places place ≡ Some (octets_at count packet place)
+  collected-has : (places : List ℕ) (place : ℕ) → has place places ≡ true → collected places place ≡ Some (octets_at wide count packet place)
   collected-has [] place there = cc
   collected-has (other ∷ places) place there = elim (cases_eq place other) [
-    | inl here ↦ rw (eq-eqb place other here) (ap (λ p. Some (octets_at count packet p)) (sym here))
+    | inl here ↦ rw (eq-eqb place other here) (ap (λ p. Some (octets_at wide count packet p)) (sym here))
     | inr elsewhere ↦ rw (ne_eqb place other elsewhere) (collected-has places place (rw (ne_eqb other place (λ e. elsewhere (sym e))) at there))
   ]
 
@@ -118,70 +162,76 @@ module _ (card : CardId) (packet : List ℕ) (element reference : ℕ) where
   collected-whole places (suc n) all =
       rw (collected-has places (suc n) (all (suc n) (omega arith) (omega arith)), collected-whole places n (λ place above within. all place above (omega arith))) refl
 
-  module _ (several : 137 < length packet) (fits : length packet ≤ 34168) where
+  module _ (several : 137 < length packet) (fits : length packet ≤ longest wide) where
     not_one : ¬ (count ≡ 1)
-    not_one one = absurd (omega (arith, two_or_more (length packet) several, one))
+    not_one one = absurd (omega (arith, two_or_more wide (length packet) several, one))
 
-    octets_at-first : octets_at count packet 1 ≡ take 132 packet
+    octets_at-first : octets_at wide count packet 1 ≡ take first packet
     octets_at-first = rw (ne_eqb count 1 not_one) refl
 
-    joined-all : (places : List ℕ) (n : ℕ) → ((place : ℕ) → 1 ≤ place → place ≤ suc n → has place places ≡ true) → joined (suc n) (collected places) ≡ take (132 + 134 * n) packet
-    joined-all places zero all = rw (collected-has places 1 (all 1 (omega arith) (omega arith))) octets_at-first
+    joined-all : (places : List ℕ) (n : ℕ) → ((place : ℕ) → 1 ≤ place → place ≤ suc n → has place places ≡ true) → joined (suc n) (collected places) ≡ take (first + later_each * n) packet
+    joined-all places zero all =
+        let none : first ≡ first + later_each * 0 = omega arith in
+        rw (collected-has places 1 (all 1 (omega arith) (omega arith))) (octets_at-first ∙ ap (λ k. take k packet) none)
     joined-all places (suc n) all =
         let before = joined-all places n (λ place above within. all place above (omega arith)) in
         let from : suc (suc n) - 2 ≡ n = omega arith in
-        let next : octets_at count packet (suc (suc n)) ≡ take 134 (drop (132 + 134 * n) packet) =
-        octets_at-later packet count (suc (suc n)) not_one (λ e. absurd (omega (arith, e))) ∙ ap (λ k. take 134 (drop (132 + 134 * k) packet)) from in
-        let sum : 132 + 134 * n + 134 ≡ 132 + 134 * suc n = omega arith in
+        let next : octets_at wide count packet (suc (suc n)) ≡ take later_each (drop (first + later_each * n) packet) =
+        octets_at-later wide packet count (suc (suc n)) not_one (λ e. absurd (omega (arith, e))) ∙ ap (λ k. take later_each (drop (first + later_each * k) packet)) from in
+        let sum : first + later_each * n + later_each ≡ first + later_each * suc n = next_start wide n ∙ ap (λ k. first + later_each * k) (add-one n) in
         rw (collected-has places (suc (suc n)) (all (suc (suc n)) (omega arith) (omega arith)))
-        ((λ i. before i ++ next i) ∙ sym (take-add (132 + 134 * n) 134 packet) ∙ ap (λ k. take k packet) sum)
+        ((λ i. before i ++ next i) ∙ sym (take-add (first + later_each * n) later_each packet) ∙ ap (λ k. take k packet) sum)
 
-    written-first : piece_of packet element reference 1 ≡ first_header element reference count ++ take 132 packet
+    written-first : piece_of packet element reference 1 ≡ first_header element reference count ++ take first packet
     written-first = rw (ne_eqb count 1 not_one) refl
 
-    written-later : (place : ℕ) → ¬ (place ≡ 1) → piece_of packet element reference place ≡ later_header reference count place ++ octets_at count packet place
+    written-later : (place : ℕ) → ¬ (place ≡ 1) → piece_of packet element reference place ≡ later_header reference count place ++ octets_at wide count packet place
     written-later place later = rw (ne_eqb count 1 not_one, ne_eqb place 1 later) refl
 
-    header-first : header_of element (piece_of packet element reference 1) ≡ Some (Part (Short reference) count 1)
+    first_some : 1 ≤ first
+    first_some = some_first wide
+
+    header-first : header_of element (piece_of packet element reference 1) ≡ Some (Part reference count 1)
     header-first =
         ap (header_of element) written-first
-        ∙ first-read element reference count (take 132 packet) (omega (arith, length-take 132 packet)) (omega (arith, length-take 132 packet)) (omega (arith, two_or_more (length packet) several))
+        ∙ first-read element reference count (take first packet) (omega (arith, length-take first packet, first_some, first_few wide)) (omega (arith, length-take first packet)) (omega (arith, two_or_more wide (length packet) several))
 
-    behind-first : octets_behind (Part (Short reference) count 1) (piece_of packet element reference 1) ≡ octets_at count packet 1
-    behind-first = ap (drop 8) written-first ∙ sym octets_at-first
+    behind-first : octets_behind (Part reference count 1) (piece_of packet element reference 1) ≡ octets_at wide count packet 1
+    behind-first = ap (octets_behind (Part reference count 1)) written-first ∙ first-behind element reference count (take first packet) ∙ sym octets_at-first
 
-    later-length : (place : ℕ) → 1 ≤ place → place ≤ count → ¬ (place ≡ 1) → (1 ≤ length (octets_at count packet place)) × (length (octets_at count packet place) ≤ 134)
+    later-length : (place : ℕ) → 1 ≤ place → place ≤ count → ¬ (place ≡ 1) → (1 ≤ length (octets_at wide count packet place)) × (length (octets_at wide count packet place) ≤ later_each)
     later-length place above within later =
-        let start : ℕ = 132 + 134 * (place - 2) in
-        let from : start < length packet = starts_within (length packet) count place refl not_one (omega arith) within in
-        let is = octets_at-later packet count place not_one later in
-        rw is (omega (arith, length-take 134 (drop start packet), length-drop start packet), omega (arith, length-take 134 (drop start packet), length-drop start packet))
+        let start : ℕ = first + later_each * (place - 2) in
+        let from : start < length packet = starts_within wide (length packet) count place refl not_one (omega arith) within in
+        let is = octets_at-later wide packet count place not_one later in
+        let some : 1 ≤ later_each = (later_few wide).0 in
+        let taken : length (take later_each (drop start packet)) ≡ min later_each (length packet - start) = length-take later_each (drop start packet) ∙ ap (min later_each) (length-drop start packet) in
+        rw is (least later_each (length packet - start) _ some (omega arith) taken)
 
-    header-later : (place : ℕ) → 1 ≤ place → place ≤ count → ¬ (place ≡ 1) → header_of element (piece_of packet element reference place) ≡ Some (Part (Short reference) count place)
+    header-later : (place : ℕ) → 1 ≤ place → place ≤ count → ¬ (place ≡ 1) → header_of element (piece_of packet element reference place) ≡ Some (Part reference count place)
     header-later place above within later =
         let lengths = later-length place above within later in
         ap (header_of element) (written-later place later)
-        ∙ later-read element reference count place (octets_at count packet place) lengths.0 lengths.1 (omega arith) within
+        ∙ later-read element reference count place (octets_at wide count packet place) lengths.0 lengths.1 (omega arith) within
 
-    behind-later : (place : ℕ) → ¬ (place ≡ 1) → octets_behind (Part (Short reference) count place) (piece_of packet element reference place) ≡ octets_at count packet place
+    behind-later : (place : ℕ) → ¬ (place ≡ 1) → octets_behind (Part reference count place) (piece_of packet element reference place) ≡ octets_at wide count packet place
     behind-later place later =
-        let len : cond (eqb place 1) 8 6 ≡ 6 = rw (ne_eqb place 1 later) refl in
-        ap (λ n. drop n (piece_of packet element reference place)) len ∙ ap (drop 6) (written-later place later)
+        ap (octets_behind (Part reference count place)) (written-later place later) ∙ later-behind reference count place (octets_at wide count packet place) later
 
     -- the piece at a place is read as that
-    header-read : (place : ℕ) → 1 ≤ place → place ≤ count → header_of element (piece_of packet element reference place) ≡ Some (Part (Short reference) count place)
+    header-read : (place : ℕ) → 1 ≤ place → place ≤ count → header_of element (piece_of packet element reference place) ≡ Some (Part reference count place)
     header-read place above within = elim (cases_eq place 1) [
-      | inl one ↦ let P : ℕ → Type 0 = λ p. header_of element (piece_of packet element reference p) ≡ Some (Part (Short reference) count p) in subst P (sym one) header-first
+      | inl one ↦ let P : ℕ → Type 0 = λ p. header_of element (piece_of packet element reference p) ≡ Some (Part reference count p) in subst P (sym one) header-first
       | inr later ↦ header-later place above within later
     ]
 
-    behind-read : (place : ℕ) → octets_behind (Part (Short reference) count place) (piece_of packet element reference place) ≡ octets_at count packet place
+    behind-read : (place : ℕ) → octets_behind (Part reference count place) (piece_of packet element reference place) ≡ octets_at wide count packet place
     behind-read place = elim (cases_eq place 1) [
-      | inl one ↦ let P : ℕ → Type 0 = λ p. octets_behind (Part (Short reference) count p) (piece_of packet element reference p) ≡ octets_at count packet p in subst P (sym one) behind-first
+      | inl one ↦ let P : ℕ → Type 0 = λ p. octets_behind (Part reference count p) (piece_of packet element reference p) ≡ octets_at wide count packet p in subst P (sym one) behind-first
       | inr later ↦ behind-later place later
     ]
 
-    piece-read : (place : ℕ) → 1 ≤ place → place ≤ count → piece_in element whole_of (message place) ≡ Some (place, octets_at count packet place)
+    piece-read : (place : ℕ) → 1 ≤ place → place ≤ count → piece_in element whole_of (message place) ≡ Some (place, octets_at wide count packet place)
     piece-read place above within =
         ap (piece_by whole_of (message place)) (header-read place above within)
         ∙ rw (is_same-self whole_of) (ap (λ octets. Some (place, octets)) (behind-read place))
@@ -205,7 +255,7 @@ module _ (card : CardId) (packet : List ℕ) (element reference : ℕ) where
         let here = range place (has-here place places) in
         let same : other ≡ message place = cc in
         let rest : filter (is_piece_of element whole_of) past ≡ map message places = cc in
-        let read : Some piece ≡ Some (place, octets_at count packet place) = sym is ∙ ap (piece_in element whole_of) same ∙ piece-read place here.0 here.1 in
+        let read : Some piece ≡ Some (place, octets_at wide count packet place) = sym is ∙ ap (piece_in element whole_of) same ∙ piece-read place here.0 here.1 in
         let pieces = before places (has-rest last place places lacks) (λ other' there. range other' (has-there other' place places there)) rest in
         let part : is_whole count (collected (place ∷ places)) ≡ false = lacking-last (place ∷ places) last count above within lacks in
         (λ i. after count (read i) (pieces i)) ∙ rw part refl
@@ -224,7 +274,7 @@ module _ (card : CardId) (packet : List ℕ) (element reference : ℕ) where
         rw (piece-read place here.0 here.1) (ap (λ others. message place ∷ others) (all_pieces places (λ other there. range other (has-there other place places there))))
 
     answer-read : (past : List OfCard) (place : ℕ) → 1 ≤ place → place ≤ count → (pieces : Pieces) → pieces_after element past whole_of ≡ pieces
-        → answer_to element past (message place) ≡ if_whole count (with_piece place (octets_at count packet place) pieces)
+        → answer_to element past (message place) ≡ if_whole count (with_piece place (octets_at wide count packet place) pieces)
     answer-read past place above within pieces is =
         ap (answer_by element past (message place)) (header-read place above within)
         ∙ (λ i. if_whole count (with_piece place (behind-read place i) (is i)))
@@ -240,10 +290,10 @@ module _ (card : CardId) (packet : List ℕ) (element reference : ℕ) where
         let pieces = gathered last past fills.from_one fills.within before fills.new fills.places are in
         let all = has-all last before fills in
         let whole : is_whole count (collected (last ∷ before)) ≡ true = collected-whole (last ∷ before) count all in
-        let last_one : suc (count - 1) ≡ count = omega (arith, two_or_more (length packet) several) in
+        let last_one : suc (count - 1) ≡ count = omega (arith, two_or_more wide (length packet) several) in
         let joins = joined-all (last ∷ before) (count - 1) (λ place above within. all place above (omega (arith, last_one))) in
         let is : joined count (collected (last ∷ before)) ≡ packet =
-        ap (λ n. joined n (collected (last ∷ before))) (sym last_one) ∙ joins ∙ take_all (132 + 134 * (count - 1)) packet (last_reaches (length packet) several) in
+        ap (λ n. joined n (collected (last ∷ before))) (sym last_one) ∙ joins ∙ take_all (first + later_each * (count - 1)) packet (last_reaches wide (length packet) several) in
         answer-read past last fills.from_one fills.within (collected before) pieces ∙ rw whole (ap Whole is)
 
     nothing_before : (last : ℕ) (places : List ℕ) → 1 ≤ last → last ≤ count → has last places ≡ false → ((place : ℕ) → has place places ≡ true → (1 ≤ place) × (place ≤ count)) → assembled element (map message places) ≡ []

@@ -6,30 +6,36 @@ use Rattle.std.proofs.lemmas.Bool.{and_parts, and_from, and_left, and_right, eqb
 use Rattle.std.proofs.lemmas.List.Folds.{find-append}
 use Rattle.std.proofs.lemmas.List.Sums.{sum_by-cons}
 use Rattle.ota_core.specs.declared.references.Reference.{Reference}
-use Rattle.ota_core.specs.declared.references.Reference.TheVariants.{Short}
+use Rattle.ota_core.specs.declared.references.Reference.TheVariants.{Short, Wide}
 use Rattle.sms_segments.specs.declared.concatenations.Concatenation.{Concatenation}
 use Rattle.sms_segments.specs.declared.kept_pieces.KeptPiece.{KeptPiece}
-use Rattle.sms_segments.specs.Header.{reference_octet}
-use Rattle.sms_segments.specs.Assembled.{Pieces, is_same, joined, no_pieces, with_piece}
+use Rattle.sms_segments.specs.Assembled.{Pieces, is_same, is_same_reference, joined, no_pieces, with_piece}
 use Rattle.sms_segments.specs.Kept.{is_at, kept_in}
 
 -- ---- the same packet
 
-same_reference : (a b : Reference) → reference_octet a ≡ reference_octet b → a ≡ b
-same_reference (Short x) (Short y) e = ap Short e
+same_reference : (a b : Reference) → is_same_reference a b ≡ true → a ≡ b
+same_reference (Short x) (Short y) same = ap Short (eqb-true x y same)
+same_reference (Wide x) (Wide y) same = ap Wide (eqb-true x y same)
+same_reference (Short x) (Wide y) same = cc
+same_reference (Wide x) (Short y) same = cc
+
+own_reference : (a : Reference) → is_same_reference a a ≡ true
+own_reference (Short x) = eq-eqb x x refl
+own_reference (Wide x) = eq-eqb x x refl
 
 same_parts : (a b : Concatenation) → a.card.0 ≡ b.card.0 → a.reference ≡ b.reference → a.total ≡ b.total → a ≡ b
 same_parts a b card reference total = λ i. record { card = record { 0 = card i }; reference = reference i; total = total i }
 
 pub is_same-true : (a b : Concatenation) → is_same a b ≡ true → a ≡ b
 is_same-true a b same =
-    let outer = and_parts (eqb a.card.0 b.card.0 && eqb (reference_octet a.reference) (reference_octet b.reference)) (eqb a.total b.total) same in
-    let inner = and_parts (eqb a.card.0 b.card.0) (eqb (reference_octet a.reference) (reference_octet b.reference)) outer.0 in
-    same_parts a b (eqb-true _ _ inner.0) (same_reference a.reference b.reference (eqb-true _ _ inner.1)) (eqb-true _ _ outer.1)
+    let outer = and_parts (eqb a.card.0 b.card.0 && is_same_reference a.reference b.reference) (eqb a.total b.total) same in
+    let inner = and_parts (eqb a.card.0 b.card.0) (is_same_reference a.reference b.reference) outer.0 in
+    same_parts a b (eqb-true _ _ inner.0) (same_reference a.reference b.reference inner.1) (eqb-true _ _ outer.1)
 
 pub is_same-self : (a : Concatenation) → is_same a a ≡ true
 is_same-self a =
-    and_from _ _ (and_from _ _ (eq-eqb a.card.0 a.card.0 refl) (eq-eqb (reference_octet a.reference) (reference_octet a.reference) refl)) (eq-eqb a.total a.total refl)
+    and_from _ _ (and_from _ _ (eq-eqb a.card.0 a.card.0 refl) (own_reference a.reference)) (eq-eqb a.total a.total refl)
 
 -- ---- searches in a filtered list
 

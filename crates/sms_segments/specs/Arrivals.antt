@@ -2,13 +2,13 @@
 use Rattle.std.specs.Prelude.{◌≡◌, ◌≢◌, ℕ, ◌≤◌, ◌<◌, ◌==◌, Bool, true, false, Option, Some, None, is_some, List, [], ◌∷◌, length, map, filter}
 use Rattle.std.specs.List.{list_any}
 use Rattle.ota_core.specs.declared.cards.CardId.{CardId}
-use Rattle.ota_core.specs.declared.references.Reference.TheVariants.{Short}
+use Rattle.ota_core.specs.declared.references.Reference.{Reference}
 use Rattle.sms_segments.specs.declared.headers.Header.{Header}
 use Rattle.sms_segments.specs.declared.headers.Header.TheVariants.{Part}
 use Rattle.sms_segments.specs.declared.concatenations.Concatenation.{Concatenation}
 use Rattle.sms_segments.specs.declared.assembling.Push.TheVariants.{Whole}
-use Rattle.sms_segments.specs.Cut.{piece_of, pieces_count}
-use Rattle.sms_segments.specs.Header.{header_of}
+use Rattle.sms_segments.specs.Header.{header_of, is_wide_reference}
+use Rattle.sms_segments.specs.Cut.{longest, piece_of, pieces_count}
 use Rattle.sms_segments.specs.Assembled.{OfCard, answer_to, assembled, piece_in}
 
 -- a place is among places
@@ -24,12 +24,13 @@ pub record FillsLast (total last : ℕ) (before : List ℕ) : Type 0 where
   pub others : (place : ℕ) → 1 ≤ place → place ≤ total → place ≢ last → has place before ≡ true
 
 -- the message at a place of a packet that a card gets or sends
-abbrev pub message_at : CardId → List ℕ → ℕ → ℕ → ℕ → OfCard
+abbrev pub message_at : CardId → List ℕ → ℕ → Reference → ℕ → OfCard
 message_at card packet element reference place = record { card = card; octets = piece_of packet element reference place }
 
 -- what the pieces of a packet of several messages have in common
-abbrev pub concatenation_of : CardId → List ℕ → ℕ → Concatenation
-concatenation_of card packet reference = record { card = card; reference = Short reference; total = pieces_count (length packet) }
+abbrev pub concatenation_of : CardId → List ℕ → Reference → Concatenation
+concatenation_of card packet reference =
+    record { card = card; reference = reference; total = pieces_count (length packet) (is_wide_reference reference) }
 
 -- the message is a piece of this packet
 abbrev pub is_piece_of : ℕ → Concatenation → OfCard → Bool
@@ -37,23 +38,23 @@ is_piece_of element of message = is_some (piece_in element of message)
 
 -- A packet of one message is whole by itself, whatever came before.
 abbrev pub OneMakesIt : Type 0
-OneMakesIt = (card : CardId) (packet : List ℕ) (element reference : ℕ) (past : List OfCard) → 1 ≤ length packet → length packet ≤ 137
+OneMakesIt = (card : CardId) (packet : List ℕ) (element : ℕ) (reference : Reference) (past : List OfCard) → 1 ≤ length packet → length packet ≤ 137
     → answer_to element past (message_at card packet element reference 1) ≡ Whole packet
 
--- Of a packet of several messages, all pieces in any order, some of them more than once before the last place is filled,
+-- Of a packet of several messages, with a reference of either kind, all pieces in any order, some of them more than once before the last place is filled,
 -- and among any other messages, give the packet with the piece that fills the last place.
 abbrev pub PiecesMakeIt : Type 0
-PiecesMakeIt = (card : CardId) (packet : List ℕ) (element reference : ℕ) (past : List OfCard) (before : List ℕ) (last : ℕ)
-    → 137 < length packet → length packet ≤ 34168
+PiecesMakeIt = (card : CardId) (packet : List ℕ) (element : ℕ) (reference : Reference) (past : List OfCard) (before : List ℕ) (last : ℕ)
+    → 137 < length packet → length packet ≤ longest (is_wide_reference reference)
     → filter (is_piece_of element (concatenation_of card packet reference)) past ≡ map (message_at card packet element reference) before
-    → FillsLast (pieces_count (length packet)) last before
+    → FillsLast (pieces_count (length packet) (is_wide_reference reference)) last before
     → answer_to element past (message_at card packet element reference last) ≡ Whole packet
 
 -- The same pieces by themselves give that packet once and nothing else.
 abbrev pub PiecesMakeOne : Type 0
-PiecesMakeOne = (card : CardId) (packet : List ℕ) (element reference : ℕ) (before : List ℕ) (last : ℕ)
-    → 137 < length packet → length packet ≤ 34168
-    → FillsLast (pieces_count (length packet)) last before
+PiecesMakeOne = (card : CardId) (packet : List ℕ) (element : ℕ) (reference : Reference) (before : List ℕ) (last : ℕ)
+    → 137 < length packet → length packet ≤ longest (is_wide_reference reference)
+    → FillsLast (pieces_count (length packet) (is_wide_reference reference)) last before
     → assembled element (map (message_at card packet element reference) (last ∷ before)) ≡ record { card = card; octets = packet } ∷ []
 
 -- the card, the reference and the total that a message with this header names

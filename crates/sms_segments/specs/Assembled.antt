@@ -1,23 +1,31 @@
 -- Which packets messages make: a function of the whole list of messages. 3GPP TS 23.040, 9.2.3.24.1.
 --
 -- A past is the messages before one, newest first.
-use Rattle.std.specs.Prelude.{ℕ, zero, suc, ◌==◌, ◌&&◌, Bool, true, if◌then◌else◌, Option, Some, None, is_some, unwrap_or, List, [], ◌∷◌, ◌++◌}
+use Rattle.std.specs.Prelude.{ℕ, zero, suc, ◌==◌, ◌&&◌, Bool, true, false, if◌then◌else◌, Option, Some, None, is_some, unwrap_or, List, [], ◌∷◌, ◌++◌}
 use Rattle.ota_core.specs.declared.cards.CardId.{CardId}
+use Rattle.ota_core.specs.declared.references.Reference.{Reference}
+use Rattle.ota_core.specs.declared.references.Reference.TheVariants.{Short, Wide}
 use Rattle.sms_segments.specs.declared.headers.Header.{Header}
 use Rattle.sms_segments.specs.declared.headers.Header.TheVariants.{Only, Part}
 use Rattle.sms_segments.specs.declared.concatenations.Concatenation.{Concatenation}
 use Rattle.sms_segments.specs.declared.assembling.Push.{Push}
 use Rattle.sms_segments.specs.declared.assembling.Push.TheVariants.{Whole, More, NotOurs}
-use Rattle.sms_segments.specs.Header.{header_of, octets_behind, reference_octet}
+use Rattle.sms_segments.specs.Header.{header_of, octets_behind}
 
 -- a message to a card or from it, or a packet
 pub record OfCard : Type 0 where
   pub card : CardId
   pub octets : List ℕ
 
+-- the same reference: one of one octet and one of two are different ones, whatever their numbers
+abbrev pub is_same_reference : Reference → Reference → Bool
+is_same_reference (Short a) (Short b) = a == b
+is_same_reference (Wide a) (Wide b) = a == b
+is_same_reference _ _ = false
+
 -- the same card, reference and total
 abbrev pub is_same : Concatenation → Concatenation → Bool
-is_same a b = (a.card.0 == b.card.0) && (reference_octet a.reference == reference_octet b.reference) && (a.total == b.total)
+is_same a b = (a.card.0 == b.card.0) && is_same_reference a.reference b.reference && (a.total == b.total)
 
 -- ---- what is there of one packet
 

@@ -1,7 +1,7 @@
 //! Which pieces are of one packet.
 
 ghost use Rattle.std.specs.Prelude.{◌≡◌};
-ghost use Rattle.sms_segments.specs.Assembled.{is_same};
+ghost use Rattle.sms_segments.specs.Assembled.{is_same, is_same_reference};
 
 use ota_core::{CardId, Reference};
 
@@ -19,8 +19,19 @@ impl Concatenation {
     pub fn is_same(&self, other: &Concatenation) -> bool
         ensures { result ≡ is_same self.now other.now }
     {
-        let Reference::Short(reference) = self.reference;
-        let Reference::Short(others) = other.reference;
-        self.card.0 == other.card.0 && reference == others && self.total == other.total
+        self.card.0 == other.card.0
+            && is_same_reference(self.reference, other.reference)
+            && self.total == other.total
+    }
+}
+
+/// Whether both are one reference. One of one octet and one of two never are.
+fn is_same_reference(a: Reference, b: Reference) -> bool
+    ensures { result ≡ is_same_reference a b }
+{
+    match (a, b) {
+        (Reference::Short(a), Reference::Short(b)) => a == b,
+        (Reference::Wide(a), Reference::Wide(b)) => a == b,
+        _ => false,
     }
 }

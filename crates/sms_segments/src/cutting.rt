@@ -1,9 +1,10 @@
 //! How a packet is cut into messages.
 
-ghost use Rattle.std.specs.Prelude.{◌≡◌, ◌⊎◌, ◌+◌, ◌≤◌, ◌++◌, length};
-ghost use Rattle.sms_segments.specs.Cut.{octets_at, piece_of, pieces_count};
-ghost use Rattle.sms_segments.specs.Header.{reference_octet};
+ghost use Rattle.std.specs.Prelude.{◌≡◌, ◌⊎◌, ◌+◌, ◌/◌, ◌%◌, ◌≤◌, ◌++◌, [], ◌∷◌, length};
+ghost use Rattle.sms_segments.specs.Header.{is_wide_reference};
+ghost use Rattle.sms_segments.specs.Cut.{first_header, first_room, later_header, later_room, longest, octets_at, piece_of, pieces_count};
 
+use crate::headers::is_wide_reference;
 use arrayvec::ArrayVec;
 use ota_core::Reference;
 
@@ -14,26 +15,41 @@ type Message = ArrayVec<u8, 140>;
 const ONLY_ROOM: usize = 137;
 
 /// How many octets of a packet stand in the first of several messages.
-const FIRST_ROOM: usize = 132;
+fn first_room(wide: bool) -> usize
+    ensures { result ≡ first_room wide }
+{
+    if wide { 131 } else { 132 }
+}
 
 /// How many octets of a packet stand in a later message.
-const LATER_ROOM: usize = 134;
+fn later_room(wide: bool) -> usize
+    ensures room { result ≡ later_room wide }
+    ensures some { 1 ≤ result }
+    ensures fits { result ≤ 134 }
+{
+    if wide { 133 } else { 134 }
+}
 
-/// How many messages a packet of `len` octets takes, each filled before the next: 1 to 255.
+/// How many messages a packet of `len` octets takes, each filled before the next: 1 to 255. `wide` says whether their
+/// reference has two octets; a packet has at most 34,168 octets, and 33,913 with a wide reference.
 ///
-/// 3GPP TS 23.040, 9.2.3.24.1.
-pub fn pieces_of(len: usize) -> u32
+/// 3GPP TS 23.040, 9.2.3.24.1 and 9.2.3.24.8.
+pub fn pieces_of(len: usize, wide: bool) -> u32
     requires some { 1 ≤ len }
-    requires fits { len ≤ 34168 }
+    requires fits { len ≤ longest wide }
 
-    ensures count { result ≡ pieces_count len }
+    ensures count { result ≡ pieces_count len wide }
     ensures some { 1 ≤ result }
     ensures fits { result ≤ 255 }
 {
     if len <= ONLY_ROOM {
         return 1;
     }
-    1 + ((len - FIRST_ROOM + LATER_ROOM - 1) / LATER_ROOM) as u32
+    if wide {
+        1 + ((len - 131 + 132) / 133) as u32
+    } else {
+        1 + ((len - 132 + 133) / 134) as u32
+    }
 }
 
 /// The message at a place, from 1, of a packet: its user data header and its octets of the packet.
@@ -43,44 +59,82 @@ pub fn pieces_of(len: usize) -> u32
 pub fn piece(packet: &[u8], element: u8, reference: Reference, place: u8) -> ArrayVec<u8, 140>
     requires element { (element ≡ 0x70) ⊎ (element ≡ 0x71) }
     requires some { 1 ≤ length packet.now }
-    requires fits { length packet.now ≤ 34168 }
+    requires fits { length packet.now ≤ longest (is_wide_reference reference) }
     requires from_one { 1 ≤ place }
-    requires within { place ≤ pieces_count (length packet.now) }
+    requires within { place ≤ pieces_count (length packet.now) (is_wide_reference reference) }
 
-    ensures { result.items ≡ piece_of packet.now element (reference_octet reference) place }
+    ensures { result.items ≡ piece_of packet.now element reference place }
 {
-    let total = pieces_of(packet.len()) as u8;
-    let Reference::Short(reference) = reference;
-    let octets = octets_at(packet, total, place);
+    let wide = is_wide_reference(reference);
+    let total = pieces_of(packet.len(), wide) as u8;
+    let octets = octets_at(packet, wide, total, place);
     if total == 1 {
         joined(&[0x02, element, 0x00], octets)
     } else if place == 1 {
-        joined(
-            &[0x07, 0x00, 0x03, reference, total, 0x01, element, 0x00],
-            octets,
-        )
+        first_piece(element, reference, total, octets)
     } else {
-        joined(&[0x05, 0x00, 0x03, reference, total, place], octets)
+        later_piece(reference, total, place, octets)
     }
 }
 
+/// The first of several messages.
+fn first_piece(element: u8, reference: Reference, total: u8, octets: &[u8]) -> Message
+    requires { length octets.now ≤ first_room (is_wide_reference reference) }
+    ensures { result.items ≡ first_header element reference total ++ octets.now }
+{
+    match reference {
+        Reference::Short(reference) => joined(
+            &[0x07, 0x00, 0x03, reference, total, 0x01, element, 0x00],
+            octets,
+        ),
+        Reference::Wide(reference) => {
+            let [high, low] = halves(reference);
+            joined(
+                &[0x08, 0x08, 0x04, high, low, total, 0x01, element, 0x00],
+                octets,
+            )
+        }
+    }
+}
+
+/// A later one of several messages.
+fn later_piece(reference: Reference, total: u8, place: u8, octets: &[u8]) -> Message
+    requires { length octets.now ≤ later_room (is_wide_reference reference) }
+    ensures { result.items ≡ later_header reference total place ++ octets.now }
+{
+    match reference {
+        Reference::Short(reference) => joined(&[0x05, 0x00, 0x03, reference, total, place], octets),
+        Reference::Wide(reference) => {
+            let [high, low] = halves(reference);
+            joined(&[0x06, 0x08, 0x04, high, low, total, place], octets)
+        }
+    }
+}
+
+/// The two octets of a reference, the high one first.
+fn halves(reference: u16) -> [u8; 2]
+    ensures { result ≡ reference / 256 ∷ reference % 256 ∷ [] }
+{
+    [(reference / 256) as u8, (reference % 256) as u8]
+}
+
 /// The octets of a packet that stand in the message at a place, from 1, of so many.
-fn octets_at(packet: &[u8], total: u8, place: u8) -> &[u8]
-    requires total { total ≡ pieces_count (length packet.now) }
+fn octets_at(packet: &[u8], wide: bool, total: u8, place: u8) -> &[u8]
+    requires total { total ≡ pieces_count (length packet.now) wide }
     requires from_one { 1 ≤ place }
     requires within { place ≤ total }
-    ensures octets { result.now ≡ octets_at total packet.now place }
+    ensures octets { result.now ≡ octets_at wide total packet.now place }
     ensures only { total ≡ 1 → length result.now ≤ 137 }
-    ensures first { ¬ (total ≡ 1) → place ≡ 1 → length result.now ≤ 132 }
-    ensures later { ¬ (place ≡ 1) → length result.now ≤ 134 }
+    ensures first { ¬ (total ≡ 1) → place ≡ 1 → length result.now ≤ first_room wide }
+    ensures later { ¬ (place ≡ 1) → length result.now ≤ later_room wide }
 {
     if total == 1 {
         packet
     } else if place == 1 {
-        &packet[..FIRST_ROOM]
+        &packet[..first_room(wide)]
     } else {
-        let rest = &packet[FIRST_ROOM + LATER_ROOM * (usize::from(place) - 2)..];
-        &rest[..LATER_ROOM.min(rest.len())]
+        let rest = &packet[first_room(wide) + later_room(wide) * (usize::from(place) - 2)..];
+        &rest[..later_room(wide).min(rest.len())]
     }
 }
 
