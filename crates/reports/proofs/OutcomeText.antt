@@ -9,11 +9,11 @@ use Rattle.reports.specs.Report.{outcome_text, unreserved}
 note_unread : (note : List ℕ) (place : Reservation) (settled : Option Entry)
     → outcome_text [] (settled_by place settled) ≡ outcome_text note (settled_by place settled)
 note_unread note place None = refl
-note_unread note place (Some (Open by keyset facts)) = refl
-note_unread note place (Some (Reserve by keyset counter job tar body)) = refl
-note_unread note place (Some (Done by keyset counter answer)) = refl
-note_unread note place (Some (Refused by keyset counter status)) = refl
-note_unread note place (Some (Close by keyset)) = refl
+note_unread note place (Some (Open by moment keyset facts)) = refl
+note_unread note place (Some (Reserve by moment keyset counter job tar name body)) = refl
+note_unread note place (Some (Done by moment keyset counter answer)) = refl
+note_unread note place (Some (Refused by moment keyset counter status)) = refl
+note_unread note place (Some (Close by moment keyset)) = refl
 
 pub outcome_text_reserved : (note : List ℕ) (past : List Entry) (place : Reservation) (last : Option Reservation) → Some place ≡ last
     → outcome_text note (outcome_of_reservation past last) ≡ outcome_text [] (settled_by place (find (is_settlement_of place) past))

@@ -1,4 +1,3 @@
 pub mod Report
-pub mod Lookup
 pub mod Note
 pub mod Packets

@@ -1,6 +1,6 @@
 use Rattle.std.specs.Prelude.{ℕ, List, codes}
-use Rattle.reports.specs.declared.lookup.Note.{Note}
-use Rattle.reports.specs.declared.lookup.Note.TheVariants.{New, Closed, Exhausted, Open}
+use Rattle.reports.specs.declared.notes.Note.{Note}
+use Rattle.reports.specs.declared.notes.Note.TheVariants.{New, Closed, Exhausted, Open}
 
 -- what the report says of it
 abbrev pub note_text : Note → List ℕ

@@ -5,14 +5,15 @@ use Rattle.std.specs.Fmt.{decimal}
 use Rattle.std.specs.Int.{bytes_high_first}
 use Rattle.hex.specs.Hex.{encode_lower}
 use Rattle.ota_core.specs.Keyset.{Keyset}
-use Rattle.ota_core.specs.History.{broken_in_use, next_counter, LAST_COUNTER}
+use Rattle.ota_core.specs.History.{next_counter, LAST_COUNTER}
+use Rattle.ota_core.specs.Questions.{state_of}
 use Rattle.ota_core.specs.HistoryValue.{HistoryValue}
 use Rattle.ota_core.specs.Outcome.{outcome_of}
 use Rattle.ota_core.specs.declared.cards.CardId.{CardId}
 use Rattle.ota_core.specs.declared.jobs.Job.{Job}
 use Rattle.ota_core.specs.declared.entries.Entry.{Entry}
-use Rattle.ota_core.specs.declared.entries.Illegal.{Illegal}
-use Rattle.ota_core.specs.declared.entries.Illegal.TheVariants.{NotOpened}
+use Rattle.ota_core.specs.declared.questions.KeysetState.{KeysetState}
+use Rattle.ota_core.specs.declared.questions.KeysetState.TheVariants as state
 use Rattle.ota_core.specs.declared.outcomes.Outcome.{Outcome}
 use Rattle.ota_core.specs.declared.outcomes.Outcome.TheVariants.{New, Unsettled, Done, Refused}
 
@@ -33,15 +34,19 @@ abbrev pub answer_text : List ℕ → List ℕ
 answer_text [] = codes "-"
 answer_text octets = encode_lower octets
 
+-- the note where a keyset is open: a dash where a counter is left
+abbrev pub open_note : ℕ → List ℕ
+open_note next = if nat_le next LAST_COUNTER then codes "-" else codes "exhausted"
+
 -- why no counter of the keyset is reserved, and a dash where one may be
-abbrev pub note_for : Option Illegal → Bool → List ℕ
-note_for None left = if left then codes "-" else codes "exhausted"
-note_for (Some NotOpened) left = codes "new"
-note_for (Some _) left = codes "closed"
+abbrev pub note_for : KeysetState → ℕ → List ℕ
+note_for state.New next = codes "new"
+note_for state.Closed next = codes "closed"
+note_for state.Open next = open_note next
 
 -- the note of a job that has no reservation, by the past of its lane
 abbrev pub note_of : Keyset → List Entry → List ℕ
-note_of keyset past = note_for (broken_in_use keyset past) (nat_le (next_counter keyset past) LAST_COUNTER)
+note_of keyset past = note_for (state_of keyset past) (next_counter keyset past)
 
 -- the last three columns: outcome, counter and note
 abbrev pub outcome_text : List ℕ → Outcome → List ℕ

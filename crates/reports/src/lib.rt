@@ -2,7 +2,7 @@
 //! an answer.
 #![tactic(auto)]
 
-mod lookup;
+mod notes;
 mod packets;
 mod report;
 

@@ -1,23 +1,22 @@
-ghost use Rattle.std.specs.Prelude.{◌≡◌, ◌<◌, ◌≤◌, ◌==◌, ◌&&◌, ◌++◌, [], if◌then◌else◌, Some, None, All, length, map, string_bytes, IfOk, OnOk, codes};
+ghost use Rattle.std.specs.Prelude.{◌≡◌, ◌<◌, ◌≤◌, ◌==◌, ◌&&◌, ◌++◌, [], if◌then◌else◌, Some, None, All, length, map, reverse, string_bytes, IfOk, OnOk, codes};
 ghost use Rattle.std.specs.Bool.{OnTrue};
 ghost use Rattle.std.specs.Option.{option_copied, option_map, option_map_or};
 ghost use Rattle.std.specs.Fmt.{decimal};
-ghost use Rattle.ota_core.specs.Keyset.{is_same_keyset};
-ghost use Rattle.ota_core.specs.History.{first_some};
 ghost use Rattle.ota_core.specs.Outcome.{settled_by};
+ghost use Rattle.ota_core.specs.Questions.{reserved_under};
 ghost use Rattle.sms_segments.specs.Cut.{pieces_count};
-ghost use Rattle.reports.specs.Lookup.{place_of};
+ghost use Rattle.sms_segments.specs.Header.{is_wide_reference};
 ghost use Rattle.reports.specs.Report.{counter_text, entries_in};
-ghost use Rattle.reports.specs.Packets.{HasBody, packet_header, script_in, packet_for, packet_at, message_line, lines_of_packet, lines_for, lines_of_job, packets_of};
+ghost use Rattle.reports.specs.Packets.{HasBody, packet_header, packet_for, reference_of, message_line, lines_of_packet, lines_of_reserved, lines_if_reserved, lines_for, lines_of_job, packets_of};
 
-use crate::lookup::{facts_of, is_same_keyset, last_reservation, settlement};
 use crate::report::{history_of, put_counter, put_hex};
 use aes_modes::Keys;
 use command_packet::{PacketBuf, build_in};
+use ota_core::questions::{last_reservation, opened_facts, reserved_under, settlement};
 use ota_core::{
-    Counter, Entry, History, Job, JobId, KeysetFacts, KeysetId, Memory, Reference, Spi, Tar,
+    Counter, Entry, History, Job, JobId, KeysetFacts, Memory, Reference, Reservation, Reserved, Spi,
 };
-use sms_segments::{piece, pieces_of};
+use sms_segments::{is_wide_reference, piece, pieces_of};
 use std::alloc::Global;
 
 /// The messages of the jobs that are reserved and not settled, by the histories of the lanes in their order.
@@ -59,132 +58,97 @@ fn put_job_lines(
 {
     match last_reservation(entries, job) {
         None => Ok(()),
-        Some((keyset, counter)) => {
-            let settled = settlement(entries, &keyset, counter);
-            put_reserved(text, packet, entries, job, &keyset, counter, settled)
-        }
+        Some(place) => put_by_settlement(
+            text,
+            packet,
+            entries,
+            job,
+            place,
+            settlement(entries, place),
+        ),
     }
 }
 
 /// The lines of a job's reservation, by the entry that settles it.
-fn put_reserved(
+fn put_by_settlement(
     text: &mut String,
     packet: &mut PacketBuf,
     entries: &[Entry],
     job: JobId,
-    keyset: &KeysetId,
-    counter: Counter,
+    place: Reservation,
     settled: Option<&Entry>,
 ) -> Result<(), Memory>
     requires { All HasBody entries.now }
-    ensures { OnOk result (string_bytes text.new ≡ string_bytes text.old ++ lines_for entries.now job (settled_by (place_of (keyset.now, counter)) (option_copied settled.entry))) }
+    ensures { OnOk result (string_bytes text.new ≡ string_bytes text.old ++ lines_for entries.now job (settled_by place (option_copied settled.entry))) }
 {
     match settled {
         Some(Entry::Done { .. }) => Ok(()),
         Some(Entry::Refused { .. }) => Ok(()),
-        _ => put_unsettled(text, packet, entries, job, keyset, counter),
+        _ => put_unsettled(text, packet, entries, job, place),
     }
 }
 
+/// The lines of a counter that nothing settles.
 fn put_unsettled(
     text: &mut String,
     packet: &mut PacketBuf,
     entries: &[Entry],
     job: JobId,
-    keyset: &KeysetId,
-    counter: Counter,
+    place: Reservation,
 ) -> Result<(), Memory>
     requires { All HasBody entries.now }
-    ensures { OnOk result (string_bytes text.new ≡ string_bytes text.old ++ option_map_or (lines_of_packet job counter) (packet_at entries.now (place_of (keyset.now, counter))) []) }
+    ensures { OnOk result (string_bytes text.new ≡ string_bytes text.old ++ lines_if_reserved entries.now job (reserved_under place (reverse entries.now))) }
 {
-    if !put_packet(packet, entries, keyset, counter) {
-        return Ok(());
-    }
-    put_messages(text, job, counter, packet.as_slice())
-}
-
-/// Leaves the packet of a reservation in `packet`, or says that there is none.
-fn put_packet(
-    packet: &mut PacketBuf,
-    entries: &[Entry],
-    keyset: &KeysetId,
-    counter: Counter,
-) -> bool
-    requires { All HasBody entries.now }
-    ensures packet { (if result then Some packet.new.items else None) ≡ packet_at entries.now (place_of (keyset.now, counter)) }
-    ensures some { OnTrue result (1 ≤ length packet.new.items) }
-{
-    match facts_of(entries, keyset) {
-        None => false,
-        Some(facts) => put_packet_by(packet, &facts, entries, keyset, counter),
-    }
-}
-
-/// The same by the facts that the keyset was opened with.
-fn put_packet_by(
-    packet: &mut PacketBuf,
-    facts: &KeysetFacts,
-    entries: &[Entry],
-    keyset: &KeysetId,
-    counter: Counter,
-) -> bool
-    requires { All HasBody entries.now }
-    ensures packet { (if result then Some packet.new.items else None) ≡ option_map (packet_for facts.now (place_of (keyset.now, counter))) (first_some (script_in (place_of (keyset.now, counter))) entries.now) }
-    ensures some { OnTrue result (1 ≤ length packet.new.items) }
-{
-    for entry in entries {
-        if put_packet_of(packet, facts, entry, keyset, counter) {
-            return true;
+    match reserved_under(entries, place) {
+        None => Ok(()),
+        Some(reserved) => {
+            let facts = opened_facts(entries, reserved.keyset);
+            put_reserved(text, packet, job, &reserved, facts)
         }
     }
-    false
 }
 
-/// The same by the entry that may reserve the counter.
-fn put_packet_of(
+/// The lines of what is reserved, by the facts that its keyset was opened with.
+fn put_reserved(
+    text: &mut String,
     packet: &mut PacketBuf,
-    facts: &KeysetFacts,
-    entry: &Entry,
-    keyset: &KeysetId,
-    counter: Counter,
-) -> bool
-    requires { HasBody entry.now }
-    ensures packet { (if result then Some packet.new.items else None) ≡ option_map (packet_for facts.now (place_of (keyset.now, counter))) (script_in (place_of (keyset.now, counter)) entry.now) }
-    ensures some { OnTrue result (1 ≤ length packet.new.items) }
+    job: JobId,
+    reserved: &Reserved,
+    facts: Option<KeysetFacts>,
+) -> Result<(), Memory>
+    requires some { 1 ≤ length reserved.now.body }
+    requires fits { length reserved.now.body ≤ 4096 }
+    ensures { OnOk result (string_bytes text.new ≡ string_bytes text.old ++ lines_of_reserved job reserved.now facts) }
 {
-    match entry {
-        Entry::Reserve {
-            keyset: reserved,
-            counter: number,
-            tar,
-            body,
-            ..
-        } if is_place(reserved, *number, keyset, counter) => {
-            build(packet, facts, keyset, counter, *tar, body.as_slice());
-            true
+    match facts {
+        None => Ok(()),
+        Some(facts) => {
+            build(packet, &facts, reserved);
+            let reference = reference_of(reserved);
+            put_messages(text, job, reserved.counter, reference, packet.as_slice())
         }
-        _ => false,
     }
 }
 
-fn is_place(reserved: &KeysetId, number: Counter, keyset: &KeysetId, counter: Counter) -> bool
-    ensures { result ≡ (is_same_keyset reserved.now keyset.now && (number == counter)) }
+/// The scripts that leave under a reference of one octet have at most so many octets.
+const SHORT_SCRIPT: usize = 1024;
+
+/// The reference of a packet.
+fn reference_of(reserved: &Reserved) -> Reference
+    ensures { result ≡ reference_of reserved.now }
 {
-    is_same_keyset(reserved, keyset) && number.0 == counter.0
+    let counter = reserved.counter.0;
+    if reserved.body.as_slice().len() > SHORT_SCRIPT {
+        return Reference::Wide((counter % 65_536) as u16);
+    }
+    Reference::Short((counter % 256) as u8)
 }
 
-/// Leaves the packet of a script in `packet`.
-fn build(
-    packet: &mut PacketBuf,
-    facts: &KeysetFacts,
-    keyset: &KeysetId,
-    counter: Counter,
-    tar: Tar,
-    body: &[u8],
-)
-    requires some { 1 ≤ length body.now }
-    requires fits { length body.now ≤ 4096 }
-    ensures packet { packet.new.items ≡ packet_for facts.now (place_of (keyset.now, counter)) (tar, body.now) }
+/// Leaves the packet of what is reserved in `packet`.
+fn build(packet: &mut PacketBuf, facts: &KeysetFacts, reserved: &Reserved)
+    requires some { 1 ≤ length reserved.now.body }
+    requires fits { length reserved.now.body ≤ 4096 }
+    ensures packet { packet.new.items ≡ packet_for facts.now reserved.now }
     ensures some { 1 ≤ length packet.new.items }
 {
     let keys = Keys::new(facts.kic.as_slice(), facts.kid.as_slice()).unwrap();
@@ -193,7 +157,16 @@ fn build(
         mode: facts.mode,
         answer_ciphered: facts.ciphered,
     };
-    build_in(&keys, keyset.kvn, spi, tar, counter, body, packet);
+    let body = reserved.body.as_slice();
+    build_in(
+        &keys,
+        reserved.keyset.kvn,
+        spi,
+        reserved.tar,
+        reserved.counter,
+        body,
+        packet,
+    );
 }
 
 /// A line for each message of a packet.
@@ -201,14 +174,15 @@ fn put_messages(
     text: &mut String,
     job: JobId,
     counter: Counter,
+    reference: Reference,
     packet: &[u8],
 ) -> Result<(), Memory>
     requires some { 1 ≤ length packet.now }
-    requires fits { length packet.now ≤ 34168 }
-    ensures { OnOk result (string_bytes text.new ≡ string_bytes text.old ++ lines_of_packet job counter packet.now) }
+    requires fits { length packet.now ≤ 4128 }
+    ensures { OnOk result (string_bytes text.new ≡ string_bytes text.old ++ lines_of_packet job counter reference packet.now) }
 {
-    for before in 0..pieces_of(packet.len()) {
-        put_message(text, job, counter, packet, (before + 1) as u8)?;
+    for before in 0..pieces_of(packet.len(), is_wide_reference(reference)) {
+        put_message(text, job, counter, reference, packet, (before + 1) as u8)?;
     }
     Ok(())
 }
@@ -221,17 +195,17 @@ fn put_message(
     text: &mut String,
     job: JobId,
     counter: Counter,
+    reference: Reference,
     packet: &[u8],
     place: u8,
 ) -> Result<(), Memory>
     requires some { 1 ≤ length packet.now }
-    requires fits { length packet.now ≤ 34168 }
+    requires fits { length packet.now ≤ 4128 }
     requires from_one { 1 ≤ place }
-    requires within { place ≤ pieces_count (length packet.now) }
-    ensures { OnOk result (string_bytes text.new ≡ string_bytes text.old ++ message_line job counter packet.now place) }
+    requires within { place ≤ pieces_count (length packet.now) (is_wide_reference reference) }
+    ensures { OnOk result (string_bytes text.new ≡ string_bytes text.old ++ message_line job counter reference packet.now place) }
 {
     put_place(text, job, counter, place)?;
-    let reference = Reference::Short((counter.0 % 256) as u8);
     let message = piece(packet, COMMAND_PACKET, reference, place);
     put_hex(text, message.as_slice())?;
     text.push_str("\n")?;

@@ -3,11 +3,11 @@ ghost use Rattle.std.specs.Option.{option_copied};
 ghost use Rattle.hex.specs.Hex.{encode_lower};
 ghost use Rattle.ota_core.specs.Outcome.{settled_by, outcome_of};
 ghost use Rattle.reports.specs.Note.{note_text};
-ghost use Rattle.reports.specs.Lookup.{place_of};
 ghost use Rattle.reports.specs.Report.{report_of, header, unreserved, row_of, note_of, job_text, outcome_text, counter_text, answer_text, entries_in, history_of};
 
-use crate::lookup::{Note, last_reservation, settlement, unreserved_note};
-use ota_core::{Counter, Entry, History, Job, KeysetId, Memory};
+use crate::notes::{Note, unreserved_note};
+use ota_core::questions::{last_reservation, settlement};
+use ota_core::{Counter, Entry, History, Job, KeysetId, Memory, Reservation};
 use std::alloc::Global;
 
 /// The report of the jobs, by the histories of the lanes in their order.
@@ -55,15 +55,8 @@ fn put_outcome(text: &mut String, entries: &[Entry], job: &Job) -> Result<(), Me
     ensures { OnOk result (string_bytes text.new ≡ string_bytes text.old ++ outcome_text (note_of job.now.keyset (reverse entries.now)) (outcome_of entries.now job.now.id)) }
 {
     match last_reservation(entries, job.id) {
-        None => put_unreserved(text, unreserved_note(entries, &job.keyset)),
-        Some((keyset, counter)) => {
-            put_reserved(
-                text,
-                &keyset,
-                counter,
-                settlement(entries, &keyset, counter),
-            )
-        }
+        None => put_unreserved(text, unreserved_note(entries, job.keyset)),
+        Some(place) => put_reserved(text, place, settlement(entries, place)),
     }
 }
 
@@ -107,16 +100,15 @@ fn note_word(note: Note) -> &'static str
 /// The text of a reservation, by the entry that settles it.
 fn put_reserved(
     text: &mut String,
-    keyset: &KeysetId,
-    counter: Counter,
+    place: Reservation,
     settled: Option<&Entry>,
 ) -> Result<(), Memory>
-    ensures { OnOk result (string_bytes text.new ≡ string_bytes text.old ++ outcome_text [] (settled_by (place_of (keyset.now, counter)) (option_copied settled.entry))) }
+    ensures { OnOk result (string_bytes text.new ≡ string_bytes text.old ++ outcome_text [] (settled_by place (option_copied settled.entry))) }
 {
     match settled {
-        Some(Entry::Done { answer, .. }) => put_done(text, counter, answer.as_slice()),
-        Some(Entry::Refused { status, .. }) => put_refused(text, counter, *status),
-        _ => put_unsettled(text, counter),
+        Some(Entry::Done { answer, .. }) => put_done(text, place.counter, answer.as_slice()),
+        Some(Entry::Refused { status, .. }) => put_refused(text, place.counter, *status),
+        _ => put_unsettled(text, place.counter),
     }
 }
 

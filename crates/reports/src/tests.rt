@@ -49,6 +49,7 @@ fn opened(keyset: KeysetId, base: Counter, mode: Mode, ciphered: bool) -> Result
     };
     Ok(Entry::Open {
         by: 0,
+        moment: 0,
         keyset,
         facts,
     })
@@ -64,10 +65,12 @@ fn reserved(
     let body = Octets::from_slice(alloc, script)?;
     Ok(Entry::Reserve {
         by: 1,
+        moment: 0,
         keyset,
         counter,
         job: JobId { campaign: 7, job },
         tar: TAR,
+        name: Octets::from_slice(alloc, &[])?,
         body,
     })
 }
@@ -76,6 +79,7 @@ fn done(alloc: Global, keyset: KeysetId, counter: Counter) -> Result<Entry, Memo
     let answer = Octets::from_slice(alloc, &[0x03, 0x69, 0x81])?;
     Ok(Entry::Done {
         by: 1,
+        moment: 0,
         keyset,
         counter,
         answer,
@@ -85,6 +89,7 @@ fn done(alloc: Global, keyset: KeysetId, counter: Counter) -> Result<Entry, Memo
 fn refused(keyset: KeysetId, counter: Counter) -> Entry {
     Entry::Refused {
         by: 1,
+        moment: 0,
         keyset,
         counter,
         status: 9,

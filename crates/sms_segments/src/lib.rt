@@ -15,7 +15,7 @@ mod spare_rooms;
 
 pub use assembling::{Assembler, Push};
 pub use cutting::{piece, pieces_of};
-pub use headers::is_wide;
+pub use headers::{is_wide, is_wide_reference};
 pub use laws::pieces_make_packets;
 
 #[cfg(test)]
