@@ -6,6 +6,5 @@ pub mod OpenLaws
 pub mod OpenOrderLaws
 pub mod OpeningLaws
 pub mod OrderLaws
-pub mod PastLaws
 pub mod RowLaws
 pub mod RunLaws

@@ -12,7 +12,7 @@ use Rattle.plan_reader.specs.declared.plans.Plan.{Plan}
 use Rattle.counter_journal.specs.EntryRanges.{IsSized, IsOfLane}
 use Rattle.ota_core.specs.declared.jobs.Job.{Job}
 use Rattle.ota_core.specs.Keyset.{Keyset}
-use Rattle.ota_core.proofs.HistoryLemmas.{is_same_keyset-refl}
+use Rattle.ota_core.specs.HistoryLaws.{broken-none, is_same_keyset-refl}
 use Rattle.ota_core.specs.Entry.{is_open_of}
 use Rattle.ota_core.specs.History.{broken_batch}
 use Rattle.ota_core.specs.declared.keysets.KeysetFacts.{KeysetFacts}
@@ -26,7 +26,7 @@ use Rattle.lane_session.specs.Lanes.{ArePassed}
 use Rattle.lane_session.specs.declared.lanes.Lane.{Lane}
 use Rattle.lane_session.proofs.LaneLaws.{start_of, passed_ready}
 use Rattle.lane_session.proofs.RunLaws.{broken_batch-append, run_more}
-use Rattle.lane_session.proofs.RowLaws.{run_wanting, not_both}
+use Rattle.lane_session.proofs.RowLaws.{run_wanting, not_both, same_moment}
 
 -- an element that isn't in a list isn't in it backwards
 pub none_reversed : (p : Entry → Bool) (xs : List Entry) → list_any p xs ≡ false → list_any p (reverse xs) ≡ false
@@ -37,12 +37,14 @@ none_reversed p (x ∷ xs) none =
     ∙ or_from (list_any p (reverse xs)) (list_any p (x ∷ [])) (none_reversed p xs parts.1) (or_from (p x) false parts.0 refl)
 
 -- an Open that is due is legal behind those that wait
-pub waiting_more : (past waiting : List Entry) (keyset : Keyset) (facts : KeysetFacts) → broken_batch past waiting ≡ None → is_opened past waiting keyset ≡ false → broken_batch past (waiting ++ open_for keyset facts ∷ []) ≡ None
+pub waiting_more : (past waiting : List Entry) (keyset : Keyset) (facts : KeysetFacts) → broken_batch past waiting ≡ None → is_opened past waiting keyset ≡ false → broken_batch past (waiting ++ open_for (reverse waiting ++ past) keyset facts ∷ []) ≡ None
 waiting_more past waiting keyset facts legal unopened =
     let parts = or_parts (has_open keyset past) (has_open keyset waiting) unopened in
     let none : list_any (is_open_of keyset) (reverse waiting ++ past) ≡ false =
     list_any-append (is_open_of keyset) (reverse waiting) past ∙ or_from (list_any (is_open_of keyset) (reverse waiting)) (list_any (is_open_of keyset) past) (none_reversed (is_open_of keyset) waiting parts.1) parts.0 in
-    broken_batch-append past waiting (open_for keyset facts ∷ []) legal (rw none refl)
+    broken_batch-append past waiting (open_for (reverse waiting ++ past) keyset facts ∷ []) legal
+    (ap (λ (o : Option Illegal). option_or o None)
+    (broken-none (reverse waiting ++ past) (open_for (reverse waiting ++ past) keyset facts) (rw none refl) (same_moment (reverse waiting ++ past))))
 
 -- ---- a pass over the rows
 
@@ -121,8 +123,8 @@ opened_added entries waiting added keyset is opened =
     (λ before. or_right (has_open keyset (reverse waiting)) (has_open keyset (reverse entries)) before)
     (λ waits. or_left (has_open keyset (reverse waiting)) (has_open keyset (reverse entries)) (some_reversed (is_open_of keyset) waiting waits)))
 
-same_opened : (keyset : Keyset) (facts : KeysetFacts) → has_open keyset (open_for keyset facts ∷ []) ≡ true
-same_opened keyset facts = rw (is_same_keyset-refl keyset) refl
+same_opened : (past : List Entry) (keyset : Keyset) (facts : KeysetFacts) → has_open keyset (open_for past keyset facts ∷ []) ≡ true
+same_opened past keyset facts = rw (is_same_keyset-refl keyset) refl
 
 module _ {D B C : Type 0} (told : Meaning D B C) (counts : D → Counts) (plan : Plan) (jobs : List Job) (number lanes : ℕ) (start : D) (before : Lane) (site : D) (now : Lane) (waiting : List Entry) (count : ℕ)
     (opening : IsOpening told counts plan jobs number lanes start before site now waiting count) where
@@ -150,7 +152,7 @@ module _ {D B C : Type 0} (told : Meaning D B C) (counts : D → Counts) (plan :
     -- the Open of the row's keyset
     module _ (goes_on : now.end ≡ None) (facts : KeysetFacts) (facts_is : facts_of plan row.keyset ≡ Some facts) (unopened : is_opened (reverse now.journal.entries) waiting row.keyset ≡ false) where
       abbrev opening_entry : Entry
-      opening_entry = open_for row.keyset facts
+      opening_entry = open_for (reverse waiting ++ reverse now.journal.entries) row.keyset facts
 
       run : IsRun told counts plan jobs number lanes start before.journal.entries site now
       run = (running goes_on).1
@@ -168,7 +170,7 @@ module _ {D B C : Type 0} (told : Meaning D B C) (counts : D → Counts) (plan :
       long = length-append waiting (opening_entry ∷ [])
 
       waits_open : has_open row.keyset (waiting ++ opening_entry ∷ []) ≡ true
-      waits_open = list_any-append (is_open_of row.keyset) waiting (opening_entry ∷ []) ∙ or_right (has_open row.keyset waiting) (has_open row.keyset (opening_entry ∷ [])) (same_opened row.keyset facts)
+      waits_open = list_any-append (is_open_of row.keyset) waiting (opening_entry ∷ []) ∙ or_right (has_open row.keyset waiting) (has_open row.keyset (opening_entry ∷ [])) (same_opened (reverse waiting ++ reverse now.journal.entries) row.keyset facts)
 
       keeps_waiting : (keyset : Keyset) → IsOpenOr plan now waiting keyset → IsOpenOr plan now (waiting ++ opening_entry ∷ []) keyset
       keeps_waiting keyset (inl opened) = inl (opened_waiting (reverse now.journal.entries) waiting keyset opening_entry opened)

@@ -58,7 +58,7 @@ none_due plan past keyset (inr none) = by (has_open keyset past) refl
     by true e = rw e refl
     by false e = rw (e, none) refl
 
-one_due : (plan : Plan) (past : List Entry) (keyset : Keyset) (facts : KeysetFacts) → has_open keyset past ≡ false → facts_of plan keyset ≡ Some facts → opens_for plan past keyset ≡ open_for keyset facts ∷ []
+one_due : (plan : Plan) (past : List Entry) (keyset : Keyset) (facts : KeysetFacts) → has_open keyset past ≡ false → facts_of plan keyset ≡ Some facts → opens_for plan past keyset ≡ open_for past keyset facts ∷ []
 one_due plan past keyset facts unopened is = rw (unopened, is) refl
 
 -- the rows behind one of the lane
@@ -118,7 +118,7 @@ module _ {D B C : Type 0} (told : Meaning D B C) (counts : D → Counts) (plan :
 
   -- one more Open waits
   open_order_waits : (left : List Job) (now : Lane) (waiting : List Entry) (job : Job) (facts : KeysetFacts) → job.keyset.card.0 % n ≡ k → IsOpenedInOrder plan k n jobs (job ∷ left) before now waiting
-      → is_opened (reverse now.journal.entries) waiting job.keyset ≡ false → facts_of plan job.keyset ≡ Some facts → IsOpenedInOrder plan k n jobs left before now (waiting ++ open_for job.keyset facts ∷ [])
+      → is_opened (reverse now.journal.entries) waiting job.keyset ≡ false → facts_of plan job.keyset ≡ Some facts → IsOpenedInOrder plan k n jobs left before now (waiting ++ open_for (past_of now waiting) job.keyset facts ∷ [])
   open_order_waits left now waiting job facts of kept unopened facts_is = record {
     added = kept.added;
     rest = kept.rest;
@@ -132,7 +132,7 @@ module _ {D B C : Type 0} (told : Meaning D B C) (counts : D → Counts) (plan :
   }
     where
       entry : Entry
-      entry = open_for job.keyset facts
+      entry = open_for (past_of now waiting) job.keyset facts
 
   -- a row of the lane
   pub open_order_row : (left : List Job) (now after : Lane) (old new : D) (waiting still : List Entry) (job : Job) → job.keyset.card.0 % n ≡ k → IsOpenedInOrder plan k n jobs (job ∷ left) before now waiting
@@ -164,7 +164,7 @@ module _ {D B C : Type 0} (told : Meaning D B C) (counts : D → Counts) (plan :
       (open_order_waits left now waiting job facts of kept unopened facts_is))
   open_order_row left now after old new waiting still job of kept (inr (inr (goes_on, unopened, facts, facts_is, inr (none, outcome, a)))) =
       subst (IsOpenedInOrder plan k n jobs left before after) (sym none)
-      (open_order_added left now after old new (waiting ++ open_for job.keyset facts ∷ []) (open_order_waits left now waiting job facts of kept unopened facts_is) goes_on outcome a)
+      (open_order_added left now after old new (waiting ++ open_for (past_of now waiting) job.keyset facts ∷ []) (open_order_waits left now waiting job facts of kept unopened facts_is) goes_on outcome a)
 
   -- at the end of the rows
   pub open_order_done : (now after : Lane) (old new : D) (waiting : List Entry) → IsOpenedInOrder plan k n jobs [] before now waiting → AreAllAdded told counts old new now after waiting → IsOpenedInOrder plan k n jobs [] before after []

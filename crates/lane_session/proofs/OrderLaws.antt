@@ -32,13 +32,13 @@ rows_after_served past job rows served = ap (λ (due : List Entry). due ++ reser
 
 -- the next counter of its keyset is due to any other
 rows_after_due : (past : List Entry) (job : Job) (counter : ℕ) (rows : List Job) → due_counter past job ≡ Some counter
-    → reserved_for_rows past (job ∷ rows) ≡ reservation_for job counter ∷ reserved_for_rows (reservation_for job counter ∷ past) rows
+    → reserved_for_rows past (job ∷ rows) ≡ reservation_for past job counter ∷ reserved_for_rows (reservation_for past job counter ∷ past) rows
 rows_after_due past job counter rows due = ap (λ (d : List Entry). d ++ reserved_for_rows (d ++ past) rows) one_due
   where
     tests : (is_served past job ≡ false) × (next_counter job.keyset past ≡ counter)
     tests = none_if (is_served past job) (next_counter job.keyset past) counter due
 
-    one_due : reserved_for past job ≡ reservation_for job counter ∷ []
+    one_due : reserved_for past job ≡ reservation_for past job counter ∷ []
     one_due = rw (tests.0, tests.1) refl
 
 -- the first row that is left is of the lane, or is not
@@ -83,7 +83,7 @@ module _ {D B C : Type 0} (told : Meaning D B C) (counts : D → Counts) where
   -- what is left to add begins with what is due to the row
   rest_at : (k n : ℕ) (jobs left : List Job) (before now : Lane) (job : Job) (counter : ℕ) → job.keyset.card.0 % n ≡ k → (kept : IsInOrder k n jobs (job ∷ left) before now) → now.end ≡ None
       → due_counter (reverse now.journal.entries) job ≡ Some counter
-      → kept.rest ≡ reservation_for job counter ∷ reserved_for_rows (reservation_for job counter ∷ reverse now.journal.entries) (rows_of_lane k n left)
+      → kept.rest ≡ reservation_for (reverse now.journal.entries) job counter ∷ reserved_for_rows (reservation_for (reverse now.journal.entries) job counter ∷ reverse now.journal.entries) (rows_of_lane k n left)
   rest_at k n jobs left before now job counter of kept goes_on due =
       kept.whole goes_on ∙ ap (reserved_for_rows (reverse now.journal.entries)) (rows_here k n job left of) ∙ rows_after_due (reverse now.journal.entries) job counter (rows_of_lane k n left) due
 
@@ -112,8 +112,8 @@ module _ {D B C : Type 0} (told : Meaning D B C) (counts : D → Counts) where
     entries = a.err.entries ∙ kept.entries;
     order = kept.order;
     whole = λ open_end. absurd (not_both error after.end a.end_is open_end);
-    full = λ began. full_by told counts old new now after (reservation_for job counter ∷ []) kept.rest
-        (reserved_for_rows (reservation_for job counter ∷ reverse now.journal.entries) (rows_of_lane k n left), rest_at k n jobs left before now job counter of kept goes_on due) error a;
+    full = λ began. full_by told counts old new now after (reservation_for (reverse now.journal.entries) job counter ∷ []) kept.rest
+        (reserved_for_rows (reservation_for (reverse now.journal.entries) job counter ∷ reverse now.journal.entries) (rows_of_lane k n left), rest_at k n jobs left before now job counter of kept goes_on due) error a;
   }
   row_in_order k n jobs left before now after old new job of kept (inr (inr (goes_on, counter, due, Ok done, a))) = record {
     added = kept.added ++ reservation ∷ [];
@@ -125,7 +125,7 @@ module _ {D B C : Type 0} (told : Meaning D B C) (counts : D → Counts) where
   }
     where
       reservation : Entry
-      reservation = reservation_for job counter
+      reservation = reservation_for (reverse now.journal.entries) job counter
 
       past : List Entry
       past = reverse now.journal.entries

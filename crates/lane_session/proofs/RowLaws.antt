@@ -3,6 +3,7 @@ use Rattle.std.proofs.Common.{◌≡◌, ℕ, ◌%◌, Bool, true, false, ◌||�
 use Rattle.std.specs.Prelude.{is_some, nat_le, if◌then◌else◌}
 use Rattle.std.specs.Option.{option_or}
 use Rattle.std.proofs.lemmas.Bool.{eq-eqb, or_parts}
+use Rattle.std.proofs.lemmas.Bool.Decides.{nat_tests}
 use Rattle.std.proofs.lemmas.List.{reverse-append}
 use Rattle.std.proofs.lemmas.List.Elements.{All-push, All-append}
 use Rattle.disk_model.specs.Counts.{Counts}
@@ -11,8 +12,10 @@ use Rattle.disk_model.specs.Runs.{joined, weaker}
 use Rattle.gate_log.specs.declared.log_errors.LogErr.{LogErr}
 use Rattle.gate_log.specs.declared.log_errors.LogErr.TheVariants as log_err
 use Rattle.ota_core.specs.Keyset.{Keyset, is_same_keyset}
-use Rattle.ota_core.specs.Entry.{reservation_in}
-use Rattle.ota_core.specs.History.{LAST_COUNTER, first_some, last_reservation, broken, broken_batch, broken_in_use, next_counter}
+use Rattle.ota_core.specs.Entry.{moment_of, reservation_in}
+use Rattle.ota_core.specs.History.{LAST_COUNTER, unless, first_some, last_reservation, broken, broken_batch, broken_moment, broken_in_use, next_counter}
+use Rattle.ota_core.specs.Questions.{last_moment}
+use Rattle.ota_core.specs.HistoryLaws.{broken-none, is_same_keyset-true}
 use Rattle.ota_core.specs.declared.entries.Entry.{Entry}
 use Rattle.ota_core.specs.declared.entries.Entry.TheVariants.{Open, Reserve, Done, Refused, Close}
 use Rattle.ota_core.specs.declared.entries.Illegal.{Illegal}
@@ -26,7 +29,6 @@ use Rattle.lane_session.specs.Due.{is_out, is_served, due_counter, reservation_f
 use Rattle.lane_session.specs.Run.{AreAdded, HoldsGrown, HoldsNearly, EndCause, UnlessFailed, IsFullFor, IsRun, IsRowStep}
 use Rattle.lane_session.specs.LiveCounts.{first_some-append, is_same_job-refl}
 use Rattle.lane_session.specs.declared.lanes.Lane.{Lane}
-use Rattle.ota_core.proofs.HistoryLemmas.{is_same_keyset-true}
 use Rattle.lane_session.proofs.RunLaws.{broken_batch-append, run_more}
 
 -- ---- what is due, and what stays served
@@ -54,15 +56,26 @@ unreserved_before before added id none =
     or_none (first_some (reservation_in id) (reverse added)) (first_some (reservation_in id) (reverse before))
     (sym (first_some-append (reservation_in id) (reverse added) (reverse before)) ∙ ap (first_some (reservation_in id)) (sym (reverse-append before added)) ∙ none)
 
+at_same : (past : List Entry) (last : Entry) (test : Bool) → nat_le (moment_of last) (moment_of last) ≡ test → unless test (Illegal.Earlier (moment_of last)) ≡ None
+at_same past last true is = refl
+at_same past last false is = absurd (grind (arith, nat_tests, is))
+
+-- an entry at the moment of the one before it isn't earlier
+pub same_moment : (past : List Entry) → broken_moment past (last_moment past) ≡ None
+same_moment [] = refl
+same_moment (last ∷ past) = at_same past last (nat_le (moment_of last) (moment_of last)) refl
+
 -- the reservation that is due breaks no rule
-pub due_legal : (past : List Entry) (job : Job) (counter : ℕ) → due_counter past job ≡ Some counter → broken past (reservation_for job counter) ≡ None
+pub due_legal : (past : List Entry) (job : Job) (counter : ℕ) → due_counter past job ≡ Some counter → broken past (reservation_for past job counter) ≡ None
 due_legal past job counter due =
     let tests = none_if (is_served past job) (next_counter job.keyset past) counter due in
     let parts = or_parts (is_some (last_reservation job.id past)) (is_out past job.keyset) tests.0 in
     let outs = or_parts (is_some (broken_in_use job.keyset past)) (not (nat_le (next_counter job.keyset past) LAST_COUNTER)) parts.1 in
     let in_use = is_none_by (broken_in_use job.keyset past) outs.0 in
     let none = is_none_by (last_reservation job.id past) parts.0 in
-    rw (in_use, none, ← tests.1, not_false (nat_le (next_counter job.keyset past) LAST_COUNTER) outs.1, eq-eqb (next_counter job.keyset past) (next_counter job.keyset past) refl) refl
+    broken-none past (reservation_for past job counter)
+    (rw (in_use, none, ← tests.1, not_false (nat_le (next_counter job.keyset past) LAST_COUNTER) outs.1, eq-eqb (next_counter job.keyset past) (next_counter job.keyset past) refl) refl)
+    (same_moment past)
   where
     not_false : (b : Bool) → not b ≡ false → b ≡ true
     not_false true e = refl
@@ -76,9 +89,9 @@ or_cases : (a b c d : Bool) → (a || b) ≡ true → (a ≡ true → c ≡ true
 or_cases true b c d e first second = ap (λ (x : Bool). x || d) (first refl)
 or_cases false b c d e first second = second e
 
-out_other : (keyset other : Keyset) (counter : ℕ) (id : JobId) (tar body : List ℕ) (past : List Entry) (same : Bool) → is_same_keyset other keyset ≡ same → same ≡ false
-    → is_out (Reserve 0 other counter id tar body ∷ past) keyset ≡ is_out past keyset
-out_other keyset other counter id tar body past same is differs = rw (is, differs) refl
+out_other : (keyset other : Keyset) (moment counter : ℕ) (id : JobId) (tar name body : List ℕ) (past : List Entry) (same : Bool) → is_same_keyset other keyset ≡ same → same ≡ false
+    → is_out (Reserve 0 moment other counter id tar name body ∷ past) keyset ≡ is_out past keyset
+out_other keyset other moment counter id tar name body past same is differs = rw (is, differs) refl
 
 right_true : (a b : Bool) → b ≡ true → (a || b) ≡ true
 right_true true b e = refl
@@ -88,24 +101,24 @@ true_is_false : true ≡ false → ⊥
 true_is_false e = cc
 
 -- a row that is served stays served when another is
-pub served_past : (past : List Entry) (row job : Job) (counter : ℕ) → due_counter past job ≡ Some counter → is_served past row ≡ true → is_served (reservation_for job counter ∷ past) row ≡ true
+pub served_past : (past : List Entry) (row job : Job) (counter : ℕ) → due_counter past job ≡ Some counter → is_served past row ≡ true → is_served (reservation_for past job counter ∷ past) row ≡ true
 served_past past row job counter due served =
-    or_cases (is_some (last_reservation row.id past)) (is_out past row.keyset) (is_some (last_reservation row.id (reservation_for job counter ∷ past))) (is_out (reservation_for job counter ∷ past) row.keyset) served
-    (λ reserved. some_first (reservation_in row.id (reservation_for job counter)) (last_reservation row.id past) reserved)
+    or_cases (is_some (last_reservation row.id past)) (is_out past row.keyset) (is_some (last_reservation row.id (reservation_for past job counter ∷ past))) (is_out (reservation_for past job counter ∷ past) row.keyset) served
+    (λ reserved. some_first (reservation_in row.id (reservation_for past job counter)) (last_reservation row.id past) reserved)
     (λ out. by_keyset (is_same_keyset job.keyset row.keyset) refl out)
   where
     by_keyset : (same : Bool) → is_same_keyset job.keyset row.keyset ≡ same → is_out past row.keyset ≡ true
-        → (is_some (last_reservation row.id (reservation_for job counter ∷ past)) || is_out (reservation_for job counter ∷ past) row.keyset) ≡ true
+        → (is_some (last_reservation row.id (reservation_for past job counter ∷ past)) || is_out (reservation_for past job counter ∷ past) row.keyset) ≡ true
     by_keyset true is out =
         let tests = none_if (is_served past job) (next_counter job.keyset past) counter due in
         let parts = or_parts (is_some (last_reservation job.id past)) (is_out past job.keyset) tests.0 in
         absurd (true_is_false (sym (subst (λ (k : Keyset). is_out past k ≡ true) (sym (is_same_keyset-true job.keyset row.keyset is)) out) ∙ parts.1))
     by_keyset false is out =
-        right_true (is_some (last_reservation row.id (reservation_for job counter ∷ past))) (is_out (reservation_for job counter ∷ past) row.keyset)
-        (out_other row.keyset job.keyset counter job.id job.tar job.body past (is_same_keyset job.keyset row.keyset) refl is ∙ out)
+        right_true (is_some (last_reservation row.id (reservation_for past job counter ∷ past))) (is_out (reservation_for past job counter ∷ past) row.keyset)
+        (out_other row.keyset job.keyset (last_moment past) counter job.id job.tar [] job.body past (is_same_keyset job.keyset row.keyset) refl is ∙ out)
 
 -- the row itself is served
-pub served_now : (past : List Entry) (job : Job) (counter : ℕ) → is_served (reservation_for job counter ∷ past) job ≡ true
+pub served_now : (past : List Entry) (job : Job) (counter : ℕ) → is_served (reservation_for past job counter ∷ past) job ≡ true
 served_now past job counter = rw (is_same_job-refl job.id) refl
 
 -- ---- one row
@@ -127,7 +140,7 @@ module _ {D B C : Type 0} (told : Meaning D B C) (counts : D → Counts) where
   stays_served old new before after job row (inl same) served = subst (λ (l : Lane). is_served (reverse l.journal.entries) row ≡ true) (sym same.1) served
   stays_served old new before after job row (inr (inl wants)) served = subst (λ j. is_served (reverse j.entries) row ≡ true) (sym wants.2) served
   stays_served old new before after job row (inr (inr (goes_on, counter, due, Ok done, a))) served =
-      subst (λ (past : List Entry). is_served past row ≡ true) (sym (entries_after before after (reservation_for job counter ∷ []) a.added (reservation_for job counter) refl))
+      subst (λ (past : List Entry). is_served past row ≡ true) (sym (entries_after before after (reservation_for (reverse before.journal.entries) job counter ∷ []) a.added (reservation_for (reverse before.journal.entries) job counter) refl))
       (served_past (reverse before.journal.entries) row job counter due served)
   stays_served old new before after job row (inr (inr (goes_on, counter, due, Err error, a))) served =
       subst (λ (e : List Entry). is_served (reverse e) row ≡ true) (sym a.err.entries) served
@@ -138,7 +151,7 @@ module _ {D B C : Type 0} (told : Meaning D B C) (counts : D → Counts) where
       subst (λ (l : Lane). is_served (reverse l.journal.entries) job ≡ true) (sym same.1) (same.2 (ap (λ (l : Lane). l.end) (sym same.1) ∙ goes_on))
   row_served old new before after job (inr (inl wants)) goes_on = absurd (not_both log_err.Memory after.end wants.3 goes_on)
   row_served old new before after job (inr (inr (open_end, counter, due, Ok done, a))) goes_on =
-      subst (λ (past : List Entry). is_served past job ≡ true) (sym (entries_after before after (reservation_for job counter ∷ []) a.added (reservation_for job counter) refl))
+      subst (λ (past : List Entry). is_served past job ≡ true) (sym (entries_after before after (reservation_for (reverse before.journal.entries) job counter ∷ []) a.added (reservation_for (reverse before.journal.entries) job counter) refl))
       (served_now (reverse before.journal.entries) job counter)
   row_served old new before after job (inr (inr (open_end, counter, due, Err error, a))) goes_on = absurd (not_both error after.end a.end_is goes_on)
 
@@ -172,20 +185,20 @@ module _ {D B C : Type 0} (told : Meaning D B C) (counts : D → Counts) where
         let past : List Entry = reverse now.journal.entries in
         let unreserved : last_reservation job.id (reverse before) ≡ None =
         unreserved_before before run.added job.id (subst (λ (e : List Entry). last_reservation job.id (reverse e) ≡ None) run.entries (due_unreserved past job counter due)) in
-        let added_for : IsAddedFor plan jobs before (reservation_for job counter) = (refl, among, unreserved) in
-        let legal : broken_batch past (reservation_for job counter ∷ []) ≡ None = ap (λ (o : Option Illegal). option_or o None) (due_legal past job counter due) in
-        run_more told counts plan jobs lane lanes start before site new now after (reservation_for job counter ∷ []) run goes_on (omega arith)
-        (alone (IsAddedFor plan jobs before) (reservation_for job counter) added_for) (alone (IsOfLane lane lanes) (reservation_for job counter) of_lane) legal outcome a
+        let added_for : IsAddedFor plan jobs before (reservation_for past job counter) = (refl, among, unreserved, refl) in
+        let legal : broken_batch past (reservation_for past job counter ∷ []) ≡ None = ap (λ (o : Option Illegal). option_or o None) (due_legal past job counter due) in
+        run_more told counts plan jobs lane lanes start before site new now after (reservation_for past job counter ∷ []) run goes_on (omega arith)
+        (alone (IsAddedFor plan jobs before) (reservation_for past job counter) added_for) (alone (IsOfLane lane lanes) (reservation_for past job counter) of_lane) legal outcome a
 
 -- ---- parts of a session one after the other
 
 -- what is added behind a longer history may be added behind a shorter one
 shorter_for : (plan : Plan) (jobs : List Job) (before added : List Entry) (entry : Entry) → IsAddedFor plan jobs (before ++ added) entry → IsAddedFor plan jobs before entry
-shorter_for plan jobs before added (Open by keyset facts) for_row = for_row
-shorter_for plan jobs before added (Reserve by keyset counter id tar body) for_row = (for_row.0, for_row.1, unreserved_before before added id for_row.2)
-shorter_for plan jobs before added (Done by keyset counter answer) for_row = absurd for_row
-shorter_for plan jobs before added (Refused by keyset counter status) for_row = absurd for_row
-shorter_for plan jobs before added (Close by keyset) for_row = absurd for_row
+shorter_for plan jobs before added (Open by moment keyset facts) for_row = for_row
+shorter_for plan jobs before added (Reserve by moment keyset counter id tar name body) for_row = (for_row.0, for_row.1, unreserved_before before added id for_row.2, for_row.3)
+shorter_for plan jobs before added (Done by moment keyset counter answer) for_row = absurd for_row
+shorter_for plan jobs before added (Refused by moment keyset counter status) for_row = absurd for_row
+shorter_for plan jobs before added (Close by moment keyset) for_row = absurd for_row
 
 pub full_for : (P Q : List Entry → Type 0) (journal : JournalValue) (end : Option LogErr) → ((next : List Entry) → P next → Q next) → IsFullFor P journal end → IsFullFor Q journal end
 full_for P Q journal None then_q full = full

@@ -9,18 +9,15 @@ use Rattle.disk_model.specs.Runs.{joined, weaker, left_now, at_once}
 use Rattle.disk_model.specs.declared.faults.DiskFault.{DiskFault}
 use Rattle.gate_log.specs.declared.log_errors.LogErr.{LogErr}
 use Rattle.gate_log.specs.declared.log_errors.LogErr.TheVariants as log_err
-use Rattle.gate_log.specs.Reading.{parts_of}
-use Rattle.gate_log.specs.Reading.Reading.{Opened}
 use Rattle.gate_log.specs.Answers.{ErrCause}
-use Rattle.gate_log.specs.Opening.{IsOpenLog}
 use Rattle.ota_core.specs.History.{broken, broken_batch}
 use Rattle.ota_core.specs.declared.entries.Entry.{Entry}
 use Rattle.ota_core.specs.declared.entries.Illegal.{Illegal}
 use Rattle.ota_core.specs.declared.jobs.Job.{Job}
 use Rattle.plan_reader.specs.declared.plans.Plan.{Plan}
 use Rattle.counter_journal.specs.EntryRanges.{IsEntry, IsEntryOf, IsOfLane}
-use Rattle.counter_journal.specs.Journal.{journal_head}
-use Rattle.counter_journal.specs.JournalReading.{parts_for, Holds, JournalValue, IsReady, IsSameJournal, IsBeforeCalls}
+use Rattle.counter_journal.specs.JournalReading.{Holds, JournalValue, IsReady, IsSameJournal, IsBeforeCalls}
+use Rattle.counter_journal.specs.StandingLaws.{ready_holds, ready_same}
 use Rattle.lane_session.specs.Rows.{IsAddedFor}
 use Rattle.lane_session.specs.Run.{AreAdded, HoldsGrown, HoldsNearly, IsStop, EndCause, UnlessFailed, IsFullFor, IsAddition, IsRun, IsLaneReady}
 use Rattle.lane_session.specs.declared.lanes.Lane.{Lane}
@@ -63,20 +60,8 @@ module _ (plan : Plan) (jobs : List Job) (lane lanes : ℕ) where
 
 -- ---- what an addition leaves
 
-ready_holds : {D B C : Type 0} (told : Meaning D B C) (disk : D) (journal : JournalValue) → IsReady told disk journal → (image : List ℕ) → image_now told disk image → Holds journal.lane journal.lanes journal.entries image
-ready_holds told disk journal ready image now = ([], ap (λ (o : List ℕ). parts_of (journal_head journal.lane journal.lanes) o) (ready.open_log.only image now) ∙ ready.holds)
-
 nearly : (lane lanes : ℕ) (entries : List Entry) (image : List ℕ) → Holds lane lanes entries image → HoldsNearly lane lanes entries image
 nearly lane lanes entries image holds = record { more = []; few = omega arith; holds = subst (λ (e : List Entry). Holds lane lanes e image) (sym (append-nil entries)) holds }
-
-same_ready : {D B C : Type 0} (told : Meaning D B C) (disk : D) (old new : JournalValue) → IsSameJournal old new → IsReady told disk old → IsReady told disk new
-same_ready told disk old new same ready = record {
-  open_log = subst (λ (n : ℕ). IsOpenLog told disk n) (sym same.length) ready.open_log;
-  holds =
-      subst (λ (l : ℕ). parts_of (journal_head l new.lanes) (told.seen disk) ≡ Opened (parts_for new.entries) []) (sym same.lane)
-      (subst (λ (l : ℕ). parts_of (journal_head old.lane l) (told.seen disk) ≡ Opened (parts_for new.entries) []) (sym same.lanes)
-      (subst (λ (e : List Entry). parts_of (journal_head old.lane old.lanes) (told.seen disk) ≡ Opened (parts_for e) []) (sym same.entries) ready.holds));
-}
 
 -- the same in the words of the lane
 in_lane : (lane lanes a b : ℕ) (entries : List Entry) (image : List ℕ) → a ≡ lane → b ≡ lanes → Holds a b entries image → Holds lane lanes entries image
@@ -139,7 +124,7 @@ module _ {D B C : Type 0} (told : Meaning D B C) (counts : D → Counts) (plan :
     same_site = a.unchanged before_calls
 
     ready_after : Tells told start → IsReady told new after.journal
-    ready_after tells = subst (λ (d : D). IsReady told d after.journal) (sym same_site) (same_ready told site now.journal after.journal a.err (still_ready tells))
+    ready_after tells = subst (λ (d : D). IsReady told d after.journal) (sym same_site) (ready_same told site now.journal after.journal a.err (still_ready tells))
 
     pub run_refused : IsRun told counts plan jobs lane lanes start before new after
     run_refused = record {

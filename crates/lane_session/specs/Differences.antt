@@ -35,7 +35,7 @@ are_same_facts a b = (a.base == b.base) && is_same_mode a.mode b.mode && is_same
 
 -- the entry opens the keyset with other facts
 abbrev pub opens_otherwise : Keyset → KeysetFacts → Entry → Bool
-opens_otherwise keyset facts (Open by opened other) = is_same_keyset opened keyset && not (are_same_facts other facts)
+opens_otherwise keyset facts (Open by moment opened other) = is_same_keyset opened keyset && not (are_same_facts other facts)
 opens_otherwise keyset facts _ = false
 
 -- a lane has opened the keyset with other facts

@@ -2,7 +2,6 @@ pub mod Differences
 pub mod Formatting
 pub mod Opening
 pub mod Opens
-pub mod Past
 pub mod Grown
 pub mod Lanes
 pub mod Order

@@ -80,15 +80,15 @@ live_last id past = filter (is_live_in past) (option_to_list (last_reservation i
 -- before an entry that reserves a counter for the job, its last reservation is refused
 free_before : (id : JobId) (past : List Entry) (entry : Entry) (place : Reservation) → broken past entry ≡ None → reservation_in id entry ≡ Some place
     → broken_job past (last_reservation id past) ≡ None
-free_before id past (Open by keyset facts) place legal is = absurd cc
-free_before id past (Reserve by keyset counter job tar body) place legal is =
+free_before id past (Open by moment keyset facts) place legal is = absurd cc
+free_before id past (Reserve by moment keyset counter job tar name body) place legal is =
     let same = cond_some (is_same_job job id) (let p : Reservation = record { keyset = keyset; counter = counter } in p) place is in
     let behind_use = both_hold (broken_in_use keyset past) _ legal in
     let behind_counter = both_hold (broken_counter counter (next_counter keyset past)) (broken_job past (last_reservation job past)) behind_use.1 in
     subst (λ (j : JobId). broken_job past (last_reservation j past) ≡ None) (is_same_job-true job id same.0) behind_counter.1
-free_before id past (Done by keyset counter answer) place legal is = absurd cc
-free_before id past (Refused by keyset counter status) place legal is = absurd cc
-free_before id past (Close by keyset) place legal is = absurd cc
+free_before id past (Done by moment keyset counter answer) place legal is = absurd cc
+free_before id past (Refused by moment keyset counter status) place legal is = absurd cc
+free_before id past (Close by moment keyset) place legal is = absurd cc
 
 -- what is refused in the past is refused in the history
 abbrev Keeps : List Entry → List Entry → Type 0

@@ -14,6 +14,7 @@ use Rattle.ota_core.specs.Keyset.{Keyset, is_same_keyset}
 use Rattle.ota_core.specs.Job.{is_same_job}
 use Rattle.ota_core.specs.Entry.{Reservation, keyset_of, reservation_in, is_refusal_of}
 use Rattle.ota_core.specs.History.{first_some, last_reservation, IsLegal, live_reservations, EachJobLiveOnce}
+use Rattle.ota_core.specs.Questions.{Reserved, place_of, reserved_for, last_reserved}
 use Rattle.ota_core.specs.declared.jobs.JobId.{JobId}
 use Rattle.ota_core.specs.declared.jobs.Job.{Job}
 use Rattle.ota_core.specs.declared.entries.Entry.{Entry}
@@ -21,7 +22,7 @@ use Rattle.ota_core.specs.declared.entries.Entry.TheVariants.{Open, Reserve, Don
 use Rattle.plan_reader.specs.Jobs.{has_job, are_distinct}
 use Rattle.plan_reader.specs.declared.plans.Plan.{Plan}
 use Rattle.counter_journal.specs.EntryRanges.{IsEntryOf}
-use Rattle.lane_session.specs.Rows.{Among, IsAddedFor, Reserved, reserved_in, last_reserved, is_as_said, counter_unlike, differs_in, NoneDiffers}
+use Rattle.lane_session.specs.Rows.{Among, IsAddedFor, is_as_said, counter_unlike, differs_in, NoneDiffers}
 use Rattle.lane_session.specs.Live.{IsGrown, AreGrown}
 use Rattle.lane_session.specs.LiveCounts.{first_some-append, first_some-of, is_same_job-true, is_same_job-refl, IsLegal-prefix, is_live_in, live_last, length-live_reservations, length-live_last}
 
@@ -78,8 +79,8 @@ record IsForRow (jobs : List Job) (lane lanes : ℕ) (id : JobId) (place : Reser
 
 for_row : (plan : Plan) (jobs : List Job) (lane lanes : ℕ) (before : List Entry) (id : JobId) (entry : Entry) (place : Reservation)
     → IsAddedFor plan jobs before entry → IsEntryOf lane lanes entry → reservation_in id entry ≡ Some place → IsForRow jobs lane lanes id place
-for_row plan jobs lane lanes before id (Open by keyset facts) place added of_lane is = absurd cc
-for_row plan jobs lane lanes before id (Reserve by keyset counter job tar body) place added of_lane is =
+for_row plan jobs lane lanes before id (Open by moment keyset facts) place added of_lane is = absurd cc
+for_row plan jobs lane lanes before id (Reserve by moment keyset counter job tar name body) place added of_lane is =
     let same = cond_some (is_same_job job id) (let p : Reservation = record { keyset = keyset; counter = counter } in p) place is in
     let on : keyset ≡ place.keyset = ap (λ (p : Reservation). p.keyset) same.1 in
     record {
@@ -89,9 +90,9 @@ for_row plan jobs lane lanes before id (Reserve by keyset counter job tar body) 
       on = on;
       of_lane = subst (λ (k : Keyset). k.card.0 % lanes ≡ lane) on of_lane.of_lane;
     }
-for_row plan jobs lane lanes before id (Done by keyset counter answer) place added of_lane is = absurd added
-for_row plan jobs lane lanes before id (Refused by keyset counter status) place added of_lane is = absurd added
-for_row plan jobs lane lanes before id (Close by keyset) place added of_lane is = absurd added
+for_row plan jobs lane lanes before id (Done by moment keyset counter answer) place added of_lane is = absurd added
+for_row plan jobs lane lanes before id (Refused by moment keyset counter status) place added of_lane is = absurd added
+for_row plan jobs lane lanes before id (Close by moment keyset) place added of_lane is = absurd added
 
 -- the entries of a lane that has grown are of the lane
 entries_of_lane : (plan : Plan) (jobs : List Job) (lane lanes : ℕ) (before after : List Entry) → (grown : IsGrown plan jobs lane lanes before after)
@@ -162,27 +163,24 @@ not_more_live plan jobs lane lanes before after id unnamed grown =
 
 -- ---- a job that a row has
 
-abbrev place_of : Reserved → Reservation
-place_of reserved = record { keyset = reserved.keyset; counter = reserved.counter }
-
-place_in : (id : JobId) (entry : Entry) → reservation_in id entry ≡ option_map place_of (reserved_in id entry)
-place_in id (Open by keyset facts) = refl
-place_in id (Reserve by keyset counter job tar body) = where_same (is_same_job job id)
+place_in : (id : JobId) (entry : Entry) → reservation_in id entry ≡ option_map place_of (reserved_for id entry)
+place_in id (Open by moment keyset facts) = refl
+place_in id (Reserve by moment keyset counter job tar name body) = where_same (is_same_job job id)
   where
     where_same : (test : Bool) → cond test (Some (let p : Reservation = record { keyset = keyset; counter = counter } in p)) None
-        ≡ option_map place_of (cond test (Some (let r : Reserved = record { keyset = keyset; counter = counter; tar = tar; body = body } in r)) None)
+        ≡ option_map place_of (cond test (Some (let r : Reserved = record { keyset = keyset; counter = counter; job = job; moment = moment; tar = tar; name = name; body = body } in r)) None)
     where_same true = refl
     where_same false = refl
-place_in id (Done by keyset counter answer) = refl
-place_in id (Refused by keyset counter status) = refl
-place_in id (Close by keyset) = refl
+place_in id (Done by moment keyset counter answer) = refl
+place_in id (Refused by moment keyset counter status) = refl
+place_in id (Close by moment keyset) = refl
 
 last_place : (id : JobId) (past : List Entry) → last_reservation id past ≡ option_map place_of (last_reserved id past)
 last_place id [] = refl
 last_place id (entry ∷ past) =
     ap (λ (o : Option Reservation). option_or o (last_reservation id past)) (place_in id entry)
-    ∙ ap (option_or (option_map place_of (reserved_in id entry))) (last_place id past)
-    ∙ either (reserved_in id entry) (last_reserved id past)
+    ∙ ap (option_or (option_map place_of (reserved_for id entry))) (last_place id past)
+    ∙ either (reserved_for id entry) (last_reserved id past)
   where
     either : (o p : Option Reserved) → option_or (option_map place_of o) (option_map place_of p) ≡ option_map place_of (option_or o p)
     either None p = refl
@@ -210,14 +208,14 @@ unlike_cases past row reserved h = elim (cases (list_any (is_refusal_of (place_o
     cases false false h = absurd cc
 
 -- what is reserved in an entry is on its keyset
-reserved_on : (id : JobId) (entry : Entry) (reserved : Reserved) → reserved_in id entry ≡ Some reserved → keyset_of entry ≡ reserved.keyset
-reserved_on id (Open by keyset facts) reserved is = absurd cc
-reserved_on id (Reserve by keyset counter job tar body) reserved is =
-    let same = cond_some (is_same_job job id) (let r : Reserved = record { keyset = keyset; counter = counter; tar = tar; body = body } in r) reserved is in
+reserved_on : (id : JobId) (entry : Entry) (reserved : Reserved) → reserved_for id entry ≡ Some reserved → keyset_of entry ≡ reserved.keyset
+reserved_on id (Open by moment keyset facts) reserved is = absurd cc
+reserved_on id (Reserve by moment keyset counter job tar name body) reserved is =
+    let same = cond_some (is_same_job job id) (let r : Reserved = record { keyset = keyset; counter = counter; job = job; moment = moment; tar = tar; name = name; body = body } in r) reserved is in
     ap (λ (r : Reserved). r.keyset) same.1
-reserved_on id (Done by keyset counter answer) reserved is = absurd cc
-reserved_on id (Refused by keyset counter status) reserved is = absurd cc
-reserved_on id (Close by keyset) reserved is = absurd cc
+reserved_on id (Done by moment keyset counter answer) reserved is = absurd cc
+reserved_on id (Refused by moment keyset counter status) reserved is = absurd cc
+reserved_on id (Close by moment keyset) reserved is = absurd cc
 
 -- in a lane of other cards than the row's, no reservation of its job is live
 none_elsewhere : (plan : Plan) (jobs : List Job) (lane lanes : ℕ) (before after : List Entry) (row : Job) → IsTrue (are_distinct jobs) → Among row jobs
@@ -238,7 +236,7 @@ none_elsewhere plan jobs lane lanes before after row distinct among like grown e
           | inl refused ↦ ap (λ (b : Bool). cond (not b) (place_of reserved ∷ []) []) (refused_after plan jobs lane lanes before after (place_of reserved) grown refused)
           | inr same ↦ absurd (
               let entries = all_left (IsEntryOf lane lanes) before grown.added (entries_of_lane plan jobs lane lanes before after grown) in
-              let found = first_some-of (IsEntryOf lane lanes) (reserved_in row.id) (reverse before) reserved (all_reversed (IsEntryOf lane lanes) before entries) is in
+              let found = first_some-of (IsEntryOf lane lanes) (reserved_for row.id) (reverse before) reserved (all_reversed (IsEntryOf lane lanes) before entries) is in
               of_lane (keyset_of found.0) (reserved_on row.id found.0 reserved found.2 ∙ same) found.1.of_lane)
         ]
 

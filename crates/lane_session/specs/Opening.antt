@@ -5,7 +5,7 @@ use Rattle.disk_model.specs.Disk.{Meaning, Tells, DiskRun, image_now}
 use Rattle.gate_log.specs.declared.log_errors.LogErr.{LogErr}
 use Rattle.gate_log.specs.Reading.{parts_of}
 use Rattle.gate_log.specs.Answers.{ErrCause, IsNotFull}
-use Rattle.gate_log.specs.Opening.{OpensAlike}
+use Rattle.counter_journal.specs.JournalOpening.{IsBeforeOrOpened}
 use Rattle.counter_journal.specs.Journal.{journal_head}
 use Rattle.counter_journal.specs.JournalReading.{IsOpenedOf, JournalRefuses}
 use Rattle.lane_session.specs.Run.{IsLaneReady}
@@ -17,7 +17,7 @@ module _ {D B C : Type 0} (told : Meaning D B C) (counts : D → Counts) where
   -- a site whose journal was opened or refused: a stop at any moment leaves what stood before, or what opens alike
   pub record IsLooked (lane lanes : ℕ) (old new : D) : Type 0 where
     pub tells : told.tells new ≡ told.tells old
-    pub moments : Tells told old → DiskRun told old new (λ image. image_now told old image ⊎ OpensAlike (journal_head lane lanes) (told.seen old) image)
+    pub moments : Tells told old → DiskRun told old new (IsBeforeOrOpened told old lane lanes)
 
   -- a lane whose journal was opened
   pub record IsOpenedSite (lane lanes : ℕ) (old new : D) (now : Lane) : Type 0 where

@@ -46,8 +46,8 @@ module _ {D B C : Type 0} (told : Meaning D B C) (counts : D → Counts) where
       ((new ≡ old) × (after ≡ before) × (still ≡ waiting) × (before.end ≡ None → (is_opened (reverse before.journal.entries) waiting keyset ≡ true) ⊎ (facts_of plan keyset ≡ None)))
       ⊎ ((new ≡ old) × (before.end ≡ None) × (after.journal ≡ before.journal) × (after.end ≡ Some log_err.Memory))
       ⊎ ((before.end ≡ None) × (is_opened (reverse before.journal.entries) waiting keyset ≡ false) × (facts : KeysetFacts) × (facts_of plan keyset ≡ Some facts)
-      × (((new ≡ old) × (after ≡ before) × (still ≡ waiting ++ open_for keyset facts ∷ []) × (length still < MOST_OPENS))
-      ⊎ ((still ≡ []) × (outcome : Result (Unit {0}) LogErr) × IsAddition told counts old new before after (waiting ++ open_for keyset facts ∷ []) outcome)))
+      × (((new ≡ old) × (after ≡ before) × (still ≡ waiting ++ open_for (reverse waiting ++ reverse before.journal.entries) keyset facts ∷ []) × (length still < MOST_OPENS))
+      ⊎ ((still ≡ []) × (outcome : Result (Unit {0}) LogErr) × IsAddition told counts old new before after (waiting ++ open_for (reverse waiting ++ reverse before.journal.entries) keyset facts ∷ []) outcome)))
 
   -- what became of the Opens that waited: nothing, where the lane has an end or none waited; else they were added
   abbrev pub AreAllAdded : D → D → Lane → Lane → List Entry → Type 0

@@ -19,7 +19,7 @@ rows_of_lane lane lanes jobs = filter (λ job. nat_eq (job.keyset.card.0 % lanes
 
 -- what is due to a row by the past of its lane: the next counter of its keyset, or nothing
 abbrev pub reserved_for : List Entry → Job → List Entry
-reserved_for past job = if is_served past job then [] else reservation_for job (next_counter job.keyset past) ∷ []
+reserved_for past job = if is_served past job then [] else reservation_for past job (next_counter job.keyset past) ∷ []
 
 -- what is due to rows, where each is added before the next row
 abbrev pub reserved_for_rows : List Entry → List Job → List Entry
@@ -46,13 +46,13 @@ AllInOrder jobs left befores lanes = (k : ℕ) (before now : Lane) → k < lengt
     → IsInOrder k (length befores) jobs left (slice_index_or befores k before) (slice_index_or lanes k now)
 
 -- the Open of a keyset by its facts in the plan, where it has them
-abbrev pub open_by : Keyset → Option KeysetFacts → List Entry
-open_by keyset None = []
-open_by keyset (Some facts) = open_for keyset facts ∷ []
+abbrev pub open_by : List Entry → Keyset → Option KeysetFacts → List Entry
+open_by past keyset None = []
+open_by past keyset (Some facts) = open_for past keyset facts ∷ []
 
 -- the Open that is due to a keyset by the past of its lane
 abbrev pub opens_for : Plan → List Entry → Keyset → List Entry
-opens_for plan past keyset = if has_open keyset past then [] else open_by keyset (facts_of plan keyset)
+opens_for plan past keyset = if has_open keyset past then [] else open_by past keyset (facts_of plan keyset)
 
 -- the Opens that are due to the keysets of rows, where each is added before the next row
 abbrev pub opens_for_rows : Plan → List Entry → List Job → List Entry

@@ -1,14 +1,13 @@
 -- What a session may add to the history of a lane, for a plan and the rows of a list of jobs.
-use Rattle.std.specs.Prelude.{◌≡◌, ℕ, ◌<◌, nat_eq, ◌&&◌, Bool, if◌then◌else◌, Option, Some, None, option_map, find, List, length, reverse, slice_index_or, All}
+use Rattle.std.specs.Prelude.{◌≡◌, ℕ, ◌<◌, nat_eq, ◌&&◌, Bool, if◌then◌else◌, Option, Some, None, option_map, find, List, [], length, reverse, slice_index_or, All}
 use Rattle.std.specs.Option.{option_and_then}
 use Rattle.std.specs.List.{list_any}
 use Rattle.std.specs.Str.{bytes_eq}
 use Rattle.ota_core.specs.Keyset.{Keyset, is_same_keyset}
-use Rattle.ota_core.specs.Job.{is_same_job}
 use Rattle.ota_core.specs.Entry.{is_refusal_of}
-use Rattle.ota_core.specs.History.{first_some, last_reservation}
+use Rattle.ota_core.specs.History.{last_reservation}
+use Rattle.ota_core.specs.Questions.{Reserved, last_reserved}
 use Rattle.ota_core.specs.declared.cards.CardFacts.{CardFacts}
-use Rattle.ota_core.specs.declared.jobs.JobId.{JobId}
 use Rattle.ota_core.specs.declared.jobs.Job.{Job}
 use Rattle.ota_core.specs.declared.keysets.KeysetFacts.{KeysetFacts}
 use Rattle.ota_core.specs.declared.entries.Entry.{Entry}
@@ -38,29 +37,13 @@ pub record NamesKeyset (jobs : List Job) (keyset : Keyset) : Type 0 where
   pub on : job.keyset ≡ keyset
 
 -- What the session itself may add behind a history: an Open of a keyset that a row names, with the plan's facts; and a
--- reservation for a row, with its keyset, application and script, where the history has none for that job.
+-- reservation for a row, with its keyset, application and script and without a name, where the history has none for that
+-- job.
 abbrev pub IsAddedFor : Plan → List Job → List Entry → Entry → Type 0
-IsAddedFor plan jobs before (Open by keyset facts) = (by ≡ 0) × (facts_of plan keyset ≡ Some facts) × NamesKeyset jobs keyset
-IsAddedFor plan jobs before (Reserve by keyset counter id tar body) =
-    (by ≡ 0) × Among (record { id = id; keyset = keyset; tar = tar; body = body }) jobs × (last_reservation id (reverse before) ≡ None)
+IsAddedFor plan jobs before (Open by moment keyset facts) = (by ≡ 0) × (facts_of plan keyset ≡ Some facts) × NamesKeyset jobs keyset
+IsAddedFor plan jobs before (Reserve by moment keyset counter id tar name body) =
+    (by ≡ 0) × Among (record { id = id; keyset = keyset; tar = tar; body = body }) jobs × (last_reservation id (reverse before) ≡ None) × (name ≡ [])
 IsAddedFor plan jobs before _ = ⊥
-
--- what is reserved for a job
-pub record Reserved : Type 0 where
-  pub keyset : Keyset
-  pub counter : ℕ
-  pub tar : List ℕ
-  pub body : List ℕ
-
--- the reservation that the entry makes for the job, whole
-abbrev pub reserved_in : JobId → Entry → Option Reserved
-reserved_in id (Reserve by keyset counter reserved tar body) =
-    if is_same_job reserved id then Some (record { keyset = keyset; counter = counter; tar = tar; body = body }) else None
-reserved_in id _ = None
-
--- the last reservation for the job, whole, by the past of a lane
-abbrev pub last_reserved : JobId → List Entry → Option Reserved
-last_reserved id past = first_some (reserved_in id) past
 
 -- it is what the row says
 abbrev pub is_as_said : Job → Reserved → Bool

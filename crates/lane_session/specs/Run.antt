@@ -99,7 +99,7 @@ module _ {D B C : Type 0} (told : Meaning D B C) (counts : D → Counts) where
       ((new ≡ old) × (after ≡ before) × (before.end ≡ None → is_served (reverse before.journal.entries) job ≡ true))
       ⊎ ((new ≡ old) × (before.end ≡ None) × (after.journal ≡ before.journal) × (after.end ≡ Some log_err.Memory))
       ⊎ ((before.end ≡ None) × (counter : ℕ) × (due_counter (reverse before.journal.entries) job ≡ Some counter)
-      × (outcome : Result (Unit {0}) LogErr) × IsAddition old new before after (reservation_for job counter ∷ []) outcome)
+      × (outcome : Result (Unit {0}) LogErr) × IsAddition old new before after (reservation_for (reverse before.journal.entries) job counter ∷ []) outcome)
 
   -- a lane that goes on is ready for an addition
   pub record IsLaneReady (lane lanes : ℕ) (site : D) (now : Lane) : Type 0 where

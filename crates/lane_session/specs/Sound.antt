@@ -4,13 +4,7 @@ use Rattle.std.specs.Prelude.{◌≡◌, ◌⊎◌, ℕ, ◌<◌, ◌≤◌, Lis
 use Rattle.disk_model.specs.Disk.{Meaning, Tells, image_now}
 use Rattle.ota_core.specs.History.{EachJobLiveOnce}
 use Rattle.ota_core.specs.declared.entries.Entry.{Entry}
-use Rattle.counter_journal.specs.EntryRanges.{IsHistory}
-use Rattle.counter_journal.specs.JournalMaking.{IsUnmade}
-use Rattle.counter_journal.specs.JournalReading.{Holds}
-
--- the octets of a lane's journal stand for this history: the empty one where none is made yet, else the one that they hold
-abbrev pub StandsFor : ℕ → ℕ → List Entry → List ℕ → Type 0
-StandsFor lane lanes entries image = (IsUnmade lane lanes image × (entries ≡ [])) ⊎ (IsHistory lane lanes entries × Holds lane lanes entries image)
+use Rattle.counter_journal.specs.Standing.{StandsFor}
 
 module _ {D B C : Type 0} (told : Meaning D B C) where
   -- a stop of the site at such a moment may leave this history

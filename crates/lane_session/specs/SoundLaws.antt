@@ -6,17 +6,16 @@ use Rattle.std.proofs.lemmas.List.{get_or-map, get_or_default, length-map}
 use Rattle.disk_model.specs.Counts.{Counts}
 use Rattle.disk_model.specs.Disk.{Meaning, Tells, DiskRun, image_now}
 use Rattle.disk_model.specs.Runs.{at_once, weaker}
-use Rattle.gate_log.specs.Opening.{OpensAlike}
 use Rattle.ota_core.specs.History.{EachJobLiveOnce}
 use Rattle.ota_core.specs.declared.entries.Entry.{Entry}
 use Rattle.ota_core.specs.declared.jobs.Job.{Job}
 use Rattle.plan_reader.specs.Jobs.{are_distinct}
 use Rattle.plan_reader.specs.declared.plans.Plan.{Plan}
 use Rattle.counter_journal.specs.EntryRanges.{IsHistory}
-use Rattle.counter_journal.specs.Journal.{journal_head}
 use Rattle.counter_journal.specs.JournalLaws.{one_history, fit_of}
 use Rattle.counter_journal.specs.JournalMaking.{IsBeforeOrNewJournal}
-use Rattle.counter_journal.specs.JournalReading.{parts_for, Holds}
+use Rattle.counter_journal.specs.JournalOpening.{IsBeforeOrOpened}
+use Rattle.counter_journal.specs.JournalReading.{Holds}
 use Rattle.lane_session.specs.Differences.{histories_of}
 use Rattle.lane_session.specs.Formatting.{IsFormattedSite, AreFormattedBelow, IsFormattingErr}
 use Rattle.lane_session.specs.Grown.{grown_of}
@@ -26,8 +25,10 @@ use Rattle.lane_session.specs.OneLive.{are_grown, one_live}
 use Rattle.lane_session.specs.Opening.{IsLooked, AreOpenedBelow, IsOpeningErr}
 use Rattle.lane_session.specs.Rows.{NoneDiffers}
 use Rattle.lane_session.specs.Run.{HoldsGrown, IsRun, IsPassed}
-use Rattle.lane_session.specs.Sound.{StandsFor, IsLiveOnce, clock_of, AreSound, StaySound}
-use Rattle.lane_session.specs.SoundSteps.{not_unmade, element_of, clock_at, IsKept, kept_same, kept_alike, kept_made, IsKeptSite, AreKept, clocks_rise, kept_at, stood_sound, live_once, sound_now, kept_sound}
+use Rattle.counter_journal.specs.Standing.{StandsFor, IsKept}
+use Rattle.counter_journal.specs.StandingLaws.{not_unmade, kept_same, kept_opened, kept_made}
+use Rattle.lane_session.specs.Sound.{IsLiveOnce, clock_of, AreSound, StaySound}
+use Rattle.lane_session.specs.SoundSteps.{element_of, clock_at, IsKeptSite, AreKept, clocks_rise, kept_at, stood_sound, live_once, sound_now, kept_sound}
 use Rattle.lane_session.specs.declared.lanes.Lane.{Lane}
 use Rattle.lane_session.specs.declared.opening.OpeningErr.{OpeningErr}
 use Rattle.lane_session.specs.declared.opening.OpeningErr.TheVariants as opening_err
@@ -68,13 +69,9 @@ module _ {D B C : Type 0} (told : Meaning D B C) (counts : D → Counts) (seen_i
   looked_kept : (lane lanes : ℕ) (old new : D) → IsLooked told counts lane lanes old new → IsKeptSite told lane lanes old new
   looked_kept lane lanes old new looked = record {
     tells = looked.tells;
-    moments = λ tells. weaker told old new (λ image. image_now told old image ⊎ OpensAlike (journal_head lane lanes) (told.seen old) image) (IsKept told lane lanes old)
-        (looked.moments tells) (stays tells);
+    moments = λ tells. weaker told old new (IsBeforeOrOpened told old lane lanes) (IsKept told lane lanes old)
+        (looked.moments tells) (λ image. kept_opened told lane lanes old image (seen_is_image old tells));
   }
-    where
-      stays : Tells told old → (image : List ℕ) → image_now told old image ⊎ OpensAlike (journal_head lane lanes) (told.seen old) image → IsKept told lane lanes old image
-      stays tells image (inl now) = kept_same told lane lanes old image now
-      stays tells image (inr alike) = kept_alike told lane lanes old image (seen_is_image old tells) alike
 
   -- a site on which the journal of its lane was to be made
   made_kept : (lane lanes : ℕ) (old new : D) → told.tells new ≡ told.tells old → (Tells told old → DiskRun told old new (IsBeforeOrNewJournal told old lane lanes)) → IsKeptSite told lane lanes old new
@@ -202,7 +199,7 @@ module _ {D B C : Type 0} (told : Meaning D B C) (counts : D → Counts) (seen_i
     at_opening : (k moment : ℕ) (start site : D) (image : List ℕ) → k < length news → moment ≤ clock_of told opens k
         → told.image_at (get_or news k site) moment image → told.image_at (get_or opens k start) moment image
     at_opening k moment start site image below early at =
-        (run_of k start site (omega (arith, below, same_sites))).no_more moment image (omega (arith, early, clock_at told opens k start (omega (arith, below, passed.same_sites)))) at
+        (run_of k start site (omega (arith, below, same_sites))).past.no_more moment image (omega (arith, early, clock_at told opens k start (omega (arith, below, passed.same_sites)))) at
 
     -- an image from then on
     grown_at : (k moment : ℕ) (site : D) (image : List ℕ) → k < length news → clock_of told opens k ≤ moment → moment ≤ clock_of told news k
@@ -219,7 +216,7 @@ module _ {D B C : Type 0} (told : Meaning D B C) (counts : D → Counts) (seen_i
     -- and it stands for no other
     one_grown : (k : ℕ) (old : D) (image : List ℕ) (entries : List Entry) → k < length olds → HoldsGrown plan jobs k (length olds) (history k) image
         → StandsFor k (length olds) entries image → IsGrown plan jobs k (length olds) (history k) entries
-    one_grown k old image entries below grown (inl (unmade, none)) = absurd (not_unmade k (length olds) (parts_for (history k ++ grown.added)) image grown.holds unmade)
+    one_grown k old image entries below grown (inl (unmade, none)) = absurd (not_unmade k (length olds) grown.holds.parts image grown.holds.opens unmade)
     one_grown k old image entries below grown (inr (is, holds)) =
         let more = grown_of_lane k old image below grown in
         let fit = fit_of k (length olds) entries is.of_lane in
@@ -274,7 +271,7 @@ module _ {D B C : Type 0} (told : Meaning D B C) (counts : D → Counts) (seen_i
     clocks_go_on : (k : ℕ) → k < length news → clock_of told opens k ≤ clock_of told news k
     clocks_go_on k below =
         let site = element_of news (omega (arith, below)) in
-        omega (arith, (run_of k site site (omega (arith, below, same_sites))).later, clock_at told opens k site (omega (arith, below, passed.same_sites)), clock_at told news k site below)
+        omega (arith, (run_of k site site (omega (arith, below, same_sites))).past.later, clock_at told opens k site (omega (arith, below, passed.same_sites)), clock_at told news k site below)
 
     -- all were opened, and what may be added for the rows was added
     pub session_sound : StaySound told olds news

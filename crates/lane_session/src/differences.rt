@@ -17,7 +17,7 @@ ghost use Rattle.lane_session.specs.Differences.{
 
 use crate::due::differs_in;
 use crate::lanes::Lane;
-use crate::past::is_same_keyset;
+use ota_core::questions::is_same_keyset;
 use ota_core::{CardFacts, Counter, Entry, Job, KeysetFacts, KeysetId, Mode};
 use plan_reader::Plan;
 

@@ -64,7 +64,7 @@ impl Lane {
 fn batch_for(alloc: Global, history: &History, job: &Job) -> Result<Option<Vec<Entry>>, Memory>
     ensures { IfOk result (λ batch. IsBatchFor (reverse history.now.entries) job.now (option_map (λ entries. entries.items) batch)) }
 {
-    match due_reservation(history, job)? {
+    match due_reservation(alloc, history, job)? {
         None => Ok(None),
         Some(entry) => {
             let mut batch = Vec::with_capacity(alloc, 1)?;

@@ -9,7 +9,6 @@ mod lanes;
 mod laws;
 mod opening;
 mod opens;
-mod past;
 mod rows;
 mod session;
 

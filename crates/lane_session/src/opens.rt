@@ -13,10 +13,10 @@ ghost use Rattle.lane_session.specs.Order.{IsOpenedInOrder, AllOpenedInOrder};
 
 use crate::due::{is_unopened, open_for};
 use crate::lanes::Lane;
-use crate::past::is_same_keyset;
 use crate::rows::lane_of;
 use disk_model::DiskCalls;
 use gate_log::LogErr;
+use ota_core::questions::is_same_keyset;
 use ota_core::{CardFacts, CardId, Entry, History, Job, KeysetFacts, KeysetId};
 use plan_reader::Plan;
 use std::alloc::Global;
@@ -66,10 +66,11 @@ impl Lane {
             Some(facts) => facts,
             None => return waiting,
         };
-        if is_opened(self.journal.history(), &waiting, keyset, facts) {
+        if is_opened(self.journal.history(), &waiting, keyset) {
             return waiting;
         }
-        if waiting.push(open_for(keyset, facts)).is_err() {
+        let entry = open_for(self.journal.history(), &waiting, keyset, facts);
+        if waiting.push(entry).is_err() {
             self.end = Some(LogErr::Memory);
             return waiting;
         }
@@ -141,10 +142,10 @@ pub(crate) fn open_rows<T: DiskCalls>(
 }
 
 /// Whether the keyset is opened by the history or by what waits to be added.
-fn is_opened(history: &History, waiting: &[Entry], keyset: KeysetId, facts: &KeysetFacts) -> bool
+fn is_opened(history: &History, waiting: &[Entry], keyset: KeysetId) -> bool
     ensures { result ≡ is_opened (reverse history.now.entries) waiting.now keyset }
 {
-    !is_unopened(history, keyset, facts) || has_open(waiting, keyset)
+    !is_unopened(history, keyset) || has_open(waiting, keyset)
 }
 
 fn has_open(entries: &[Entry], keyset: KeysetId) -> bool

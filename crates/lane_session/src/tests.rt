@@ -154,8 +154,14 @@ fn holds(entries: &[Entry], card: u64, base: u64, reserved: &[(u64, u32)]) -> bo
 
 fn is_open(entry: &Entry, card: u64, base: u64) -> bool {
     match entry {
-        Entry::Open { by, keyset, facts } => {
+        Entry::Open {
+            by,
+            moment,
+            keyset,
+            facts,
+        } => {
             *by == 0
+                && *moment == 0
                 && keyset.card == CardId(card)
                 && keyset.kvn == 1
                 && facts.base.0 == base
@@ -185,13 +191,17 @@ fn is_reserve(entry: &Entry, card: u64, number: u64, row: u32) -> bool {
     match entry {
         Entry::Reserve {
             by,
+            moment,
             keyset,
             counter,
             job,
             tar,
+            name,
             body,
         } => {
             *by == 0
+                && *moment == 0
+                && name.as_slice().is_empty()
                 && keyset.card == CardId(card)
                 && keyset.kvn == 1
                 && counter.0 == number

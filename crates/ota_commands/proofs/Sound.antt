@@ -8,8 +8,9 @@ use Rattle.counter_journal.specs.EntryRanges.{IsHistory}
 use Rattle.counter_journal.specs.JournalMaking.{IsJournalMade}
 use Rattle.counter_journal.specs.JournalReading.{Holds}
 use Rattle.lane_session.specs.Formatting.{AreFormattedBelow}
-use Rattle.lane_session.specs.Sound.{StandsFor, AreSound, StaySound}
-use Rattle.lane_session.specs.SoundSteps.{no_entries}
+use Rattle.counter_journal.specs.Standing.{StandsFor}
+use Rattle.counter_journal.specs.StandingLaws.{no_entries}
+use Rattle.lane_session.specs.Sound.{AreSound, StaySound}
 use Rattle.lane_session.specs.SoundLaws.{still_sound, opening_sound, opened_sound, session_sound, formatted_sound, formatting_sound}
 use Rattle.ota_core.specs.declared.jobs.Job.{Job}
 use Rattle.plan_reader.specs.declared.plans.Plan.{Plan}

@@ -7,7 +7,7 @@ mod lane_file;
 use disk_model::FileDisk;
 use input_file::InputFile;
 use lane_file::lane_file;
-use ota_commands::{Command, Fault, plain_command, read_words};
+use ota_commands::{Fault, plain_command, read_words};
 use ota_io::{StdSink, StdSource};
 use site_model::BareSite;
 use std::alloc::AllocError;
@@ -41,8 +41,6 @@ fn run(rt: &HostRuntime) -> Result<Option<Fault>, AllocError> {
 }
 
 /// The sites of the lanes in a store, or none where the words aren't those of a command.
-///
-/// On one lane `reserve` makes a missing journal.
 fn sites(
     rt: &HostRuntime,
     words: &[String],
@@ -52,9 +50,8 @@ fn sites(
     let Some(said) = read_words(words) else {
         return Ok(sites);
     };
-    let make = said.command == Command::Reserve && said.lanes == 1;
     for lane in 0..said.lanes {
-        let path = lane_file(rt, word(words, 4), lane, make)?;
+        let path = lane_file(rt, word(words, 4), lane)?;
         let disk = FileDisk::new(rt.clone()?, path).keeping_open();
         sites.push(BareSite::new(alloc, disk))?;
     }
