@@ -1,12 +1,11 @@
 -- The runs of a bare site, by those of its disk.
-use Rattle.std.specs.Prelude.{◌≡◌, ◌⊎◌, ◌≤◌, ◌<◌, ℕ, ◌+◌, ◌-◌, List, [], ◌∷◌, ◌++◌, length, take, drop, Result, Ok, Err, refl}
+use Rattle.std.specs.Prelude.{◌≡◌, ◌⊎◌, ◌≤◌, ℕ, ◌+◌, List, [], ◌∷◌, ◌++◌, length, take, Result, Ok, Err}
 use Rattle.std.proofs.Common.{inl, inr, ⊎_elim, arith, sym, ◌∙◌, ap, subst}
 use Rattle.std.proofs.lemmas.Bool.{cases_lt}
 use Rattle.std.proofs.lemmas.List.{take_all, append-nil}
 use Rattle.disk_model.specs.declared.faults.DiskFault.{DiskFault}
 use Rattle.disk_model.specs.declared.faults.DiskFault.TheVariants.{Failed, Memory}
 use Rattle.disk_model.specs.Disk.{Meaning, DiskRun, Ticks, image_now}
-use Rattle.disk_model.specs.Runs.{at_once, weaker}
 use Rattle.ota_core.specs.declared.cards.CardId.{CardId}
 use Rattle.site_model.specs.declared.departures.Departure.{Departure}
 use Rattle.site_model.specs.declared.moments.Moment.{Moment}

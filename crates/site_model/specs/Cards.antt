@@ -1,11 +1,10 @@
 -- What the cards of a site keep while the port works.
-use Rattle.std.specs.Prelude.{◌≡◌, ◌⊎◌, ℕ, ◌<◌, ◌≤◌, Bool, true, List, [], ◌∷◌, ◌++◌, Some}
-use Rattle.ota_core.specs.Keyset.{Keyset}
+use Rattle.std.specs.Prelude.{◌≡◌, ◌⊎◌, ℕ, ◌<◌, ◌≤◌, true, List, [], ◌∷◌, ◌++◌, Some}
 use Rattle.ota_core.specs.declared.cards.CardFacts.{CardFacts}
 use Rattle.ota_core.specs.declared.keysets.KeysetFacts.{KeysetFacts}
 use Rattle.disk_model.specs.Disk.{Meaning}
 use Rattle.world_core.specs.Members.{In}
-use Rattle.world_core.specs.Card.{CardState, facts_under, stored_counter, IsLine, IsCardState}
+use Rattle.world_core.specs.Card.{facts_under, stored_counter, IsLine, IsCardState}
 use Rattle.world_core.specs.declared.answers.Made.{Made}
 use Rattle.world_core.specs.declared.lines.Line.{Line}
 use Rattle.site_model.specs.Port.{PortState}

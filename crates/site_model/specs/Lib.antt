@@ -5,4 +5,5 @@ pub mod Runs
 pub mod Causes
 pub mod Moments
 pub mod Bare
+pub mod BareTold
 pub mod Giving

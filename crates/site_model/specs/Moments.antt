@@ -1,7 +1,7 @@
 -- The moments of a bare site: the time of its disk and that of its port, on one clock.
 use Rattle.std.specs.Prelude.{◌≡◌, ◌≤◌, ℕ, ◌+◌, ◌-◌, List, [], ◌∷◌, ◌++◌, length, take, drop, Result, Ok, Err, refl}
-use Rattle.std.proofs.Common.{arith, sym, ◌∙◌, ap, length-append}
-use Rattle.std.proofs.lemmas.List.{take-append-le, drop-append-le, take_all, drop_all, append-nil}
+use Rattle.std.proofs.Common.{arith, ◌∙◌, ap, length-append}
+use Rattle.std.proofs.lemmas.List.{take-append-le, drop-append-le, drop_all}
 use Rattle.disk_model.specs.declared.faults.DiskFault.{DiskFault}
 use Rattle.disk_model.specs.declared.faults.DiskFault.TheVariants.{Failed, Memory}
 use Rattle.disk_model.specs.Disk.{Meaning}

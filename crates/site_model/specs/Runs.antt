@@ -1,6 +1,6 @@
 -- The moments of a port's call, and of what a site does in several calls.
-use Rattle.std.specs.Prelude.{◌≡◌, ◌⊎◌, ◌≤◌, ℕ, List}
-use Rattle.std.proofs.Common.{inl, inr, ⊎_elim, arith, sym, ◌∙◌, ap, subst}
+use Rattle.std.specs.Prelude.{◌⊎◌, ◌≤◌, ℕ, List}
+use Rattle.std.proofs.Common.{inl, inr, ⊎_elim, arith, sym, subst}
 use Rattle.std.proofs.lemmas.Bool.{cases_lt}
 use Rattle.disk_model.specs.Disk.{Meaning, PastStands, DiskRun, image_now}
 use Rattle.disk_model.specs.Runs.{past_joined}

@@ -1,9 +1,13 @@
 // A site without cards.
-ghost use Rattle.std.specs.Prelude.{◌≡◌, ◌+◌, ◌≤◌, [], IfOk, IfNone, IfSome, vec_len, vec_capacity};
-ghost use Rattle.disk_model.specs.Counts.{Counts};
-ghost use Rattle.site_model.specs.Moments.{bare_told};
+ghost use Rattle.std.specs.Prelude.{◌≡◌, ◌+◌, ◌≤◌, [], ◌∷◌, ◌++◌, IfOk, IfNone, IfSome, OnOk, vec_len, vec_capacity};
+ghost use Rattle.disk_model.specs.Disk.{Tells};
 ghost use Rattle.site_model.specs.Bare.{now_pair};
-ghost use Rattle.site_model.specs.Giving.{messages_of, TakesNext};
+ghost use Rattle.site_model.specs.BareTold.{site_told, site_counts, port_of};
+ghost use Rattle.site_model.specs.Cards.{Keeps};
+ghost use Rattle.site_model.specs.Causes.{CountsEmpty, HasSiteCause};
+ghost use Rattle.site_model.specs.Giving.{messages_of, TakesNext, GivesNext};
+ghost use Rattle.site_model.specs.Port.{IsPolling};
+ghost use Rattle.site_model.specs.Runs.{PortRun};
 
 use crate::moments::{Given, Moment, add, add_call, reserve};
 use crate::{Departure, Port, SiteCalls, SiteFault};
@@ -79,9 +83,9 @@ impl<D: DiskCalls> DiskCalls for BareSite<D> {
 
     type Choice = ();
 
-    ghost told = { bare_told D.told (λ site. site.disk) (λ site. site.moments.items) };
+    ghost told = { site_told D.told };
 
-    ghost counts = { λ site. record { faults = (D.counts site.disk).faults; wants = (D.counts site.disk).wants + site.wants; beside = site.empty_polls } };
+    ghost counts = { site_counts D.counts };
 
     ghost seen_is_image = { λ site tells. now_pair D.told site.disk site.moments.items (D.told.seen site.disk) (D.seen_is_image site.disk tells) };
 
@@ -162,7 +166,18 @@ impl<D: DiskCalls> SiteCalls for BareSite<D> {
         }
     }
 
-    fn poll(&mut self) -> Result<Option<(CardId, ArrayVec<u8, 140>)>, SiteFault> {
+    fn poll(&mut self) -> Result<Option<(CardId, ArrayVec<u8, 140>)>, SiteFault>
+        ensures gives { GivesNext self.old self.new result }
+        ensures given { Tells (site_told D.told) self.old → IfOk result (λ message. IfSome message (λ m. (port_of D.told self.new).given ≡ (port_of D.told self.old).given ++ (m.0, m.1.items) ∷ [])) }
+        ensures nothing { Tells (site_told D.told) self.old → IfOk result (λ message. IfNone message ((port_of D.told self.new).given ≡ (port_of D.told self.old).given)) }
+        ensures polled { Tells (site_told D.told) self.old → OnOk result ((port_of D.told self.new).polls ≡ (port_of D.told self.old).polls + 1) }
+        ensures moments { Tells (site_told D.told) self.old → PortRun (site_told D.told) self.old self.new (λ beside. IsPolling (port_of D.told self.old) beside) }
+        ensures keeps { Tells (site_told D.told) self.old → Keeps (site_told D.told) (λ port. port) (λ _ _. []) self.old self.new }
+        ensures content { Tells (site_told D.told) self.old → (site_told D.told).seen self.new ≡ (site_told D.told).seen self.old }
+        ensures tells { (site_told D.told).tells self.new ≡ (site_told D.told).tells self.old }
+        ensures empty { CountsEmpty (site_counts D.counts self.old) (site_counts D.counts self.new) result }
+        ensures cause { HasSiteCause (site_counts D.counts self.old) (site_counts D.counts self.new) result }
+    {
         match self.take_next() {
             Ok(Some(message)) => Ok(Some(message)),
             Ok(None) => {
@@ -238,3 +253,6 @@ impl<D: DiskCalls> BareSite<D> {
         }
     }
 }
+
+#[cfg(test)]
+mod tests;
