@@ -1,18 +1,18 @@
 -- The runs of a bare site, by those of its disk.
-use Rattle.std.specs.Prelude.{◌≡◌, ◌⊎◌, ◌≤◌, ◌<◌, ℕ, ◌+◌, ◌-◌, List, [], ◌∷◌, ◌++◌, length, take, drop, Result, Ok, Err, refl}
+use Rattle.std.specs.Prelude.{◌≡◌, ◌⊎◌, ◌≤◌, ℕ, ◌+◌, List, [], ◌∷◌, ◌++◌, length, take, Result, Ok, Err}
 use Rattle.std.proofs.Common.{inl, inr, ⊎_elim, arith, sym, ◌∙◌, ap, subst}
 use Rattle.std.proofs.lemmas.Bool.{cases_lt}
 use Rattle.std.proofs.lemmas.List.{take_all, append-nil}
 use Rattle.disk_model.specs.declared.faults.DiskFault.{DiskFault}
 use Rattle.disk_model.specs.declared.faults.DiskFault.TheVariants.{Failed, Memory}
 use Rattle.disk_model.specs.Disk.{Meaning, DiskRun, Ticks, image_now}
-use Rattle.disk_model.specs.Runs.{at_once, weaker}
+use Rattle.ota_core.specs.declared.cards.CardId.{CardId}
 use Rattle.site_model.specs.declared.departures.Departure.{Departure}
 use Rattle.site_model.specs.declared.moments.Moment.{Moment}
-use Rattle.site_model.specs.declared.moments.Moment.TheVariants.{Disk, Sent, Polled}
+use Rattle.site_model.specs.declared.moments.Moment.TheVariants.{Disk}
 use Rattle.site_model.specs.Port.{PortState}
 use Rattle.site_model.specs.Runs.{PortRun}
-use Rattle.site_model.specs.Moments.{ports, disks, sent_in, polls_in, port_after, past_by, disk_moment, bare_told, moments_after, ports-append, sent_in-append, polls_in-append, one_moment, all_past, moment_now, past_done, past_moment}
+use Rattle.site_model.specs.Moments.{ports, disks, sent_in, given_in, polls_in, port_after, past_by, disk_moment, bare_told, moments_after, ports-append, sent_in-append, given_in-append, polls_in-append, one_moment, all_past, moment_now, past_done, past_moment}
 
 -- a disk and its moments
 abbrev pub on_pairs : {E B C : Type 0} → Meaning E B C → Meaning (E × List Moment) PortState (Unit {0})
@@ -22,9 +22,11 @@ on_pairs told = bare_told told (λ pair. pair.0) (λ pair. pair.1)
 disk_only : (moments : List Moment) → port_after (moments ++ Disk ∷ []) ≡ port_after moments
 disk_only moments =
     let sent : sent_in (moments ++ Disk ∷ []) ≡ sent_in moments = sent_in-append moments (Disk ∷ []) ∙ append-nil (sent_in moments) in
+    let given : given_in (moments ++ Disk ∷ []) ≡ given_in moments = given_in-append moments (Disk ∷ []) ∙ append-nil (given_in moments) in
     let polls : polls_in (moments ++ Disk ∷ []) ≡ polls_in moments = omega (arith, polls_in-append moments (Disk ∷ [])) in
-    ap (λ (l : List Departure). record { sent = l; given = []; facts = []; made = []; polls = polls_in (moments ++ Disk ∷ []) }) sent
-    ∙ ap (λ (n : ℕ). record { sent = sent_in moments; given = []; facts = []; made = []; polls = n }) polls
+    ap (λ (l : List Departure). record { sent = l; given = given_in (moments ++ Disk ∷ []); facts = []; made = []; polls = polls_in (moments ++ Disk ∷ []) }) sent
+    ∙ ap (λ (l : List (CardId × List ℕ)). record { sent = sent_in moments; given = l; facts = []; made = []; polls = polls_in (moments ++ Disk ∷ []) }) given
+    ∙ ap (λ (n : ℕ). record { sent = sent_in moments; given = given_in moments; facts = []; made = []; polls = n }) polls
 
 module _ {E B C : Type 0} (told : Meaning E B C) where
   -- what a stop may leave now
@@ -59,12 +61,12 @@ module _ {E B C : Type 0} (told : Meaning E B C) where
     each_early : (k : ℕ) (image : List ℕ) → k ≡ c + ports moments → told.image_at new (disk_moment c' more k) image → P image
     each_early k image is at =
         let place : disk_moment c' more k ≡ c = at_past k (omega (arith, is)) ∙ ap (disk_moment c moments) is ∙ moment_now c moments in
-        run.each c image (omega arith) run.later (subst (λ (m : ℕ). told.image_at new m image) place at)
+        run.each c image (omega arith) run.past.later (subst (λ (m : ℕ). told.image_at new m image) place at)
 
     each_late : (k : ℕ) (image : List ℕ) → k ≡ c' + ports more → told.image_at new (disk_moment c' more k) image → P image
     each_late k image is at =
         let place : disk_moment c' more k ≡ c' = ap (disk_moment c' more) is ∙ moment_now c' more in
-        run.each c' image run.later (omega arith) (subst (λ (m : ℕ). told.image_at new m image) place at)
+        run.each c' image run.past.later (omega arith) (subst (λ (m : ℕ). told.image_at new m image) place at)
 
     early_or_late : (k : ℕ) → c + ports moments ≤ k → k ≤ c' + ports more → (k ≡ c + ports moments) ⊎ (k ≡ c' + ports more)
     early_or_late k low high = ⊎_elim (λ early. inl (omega (arith, early, low, clock_is))) (λ late. inr (omega (arith, late, high, clock_is))) (cases_lt k (c' + ports more))
@@ -79,17 +81,20 @@ module _ {E B C : Type 0} (told : Meaning E B C) where
     -- a call of the disk is a moment
     pub ticked : DiskRun (on_pairs told) (old, moments) (new, more) P
     ticked = record {
-      later = omega (arith, clock_is);
-      no_more = λ k image le at.
-          run.no_more (disk_moment c moments k) image (omega arith) (subst (λ (m : ℕ). told.image_at new m image) (at_past k le) at);
-      no_fewer = λ k image le at.
-          subst (λ (m : ℕ). told.image_at new m image) (sym (at_past k le)) (run.no_fewer (disk_moment c moments k) image (omega arith) at);
+      past = record {
+        later = omega (arith, clock_is);
+        no_more = λ k image le at.
+            run.past.no_more (disk_moment c moments k) image (omega arith) (subst (λ (m : ℕ). told.image_at new m image) (at_past k le) at);
+        no_fewer = λ k image le at.
+            subst (λ (m : ℕ). told.image_at new m image) (sym (at_past k le)) (run.past.no_fewer (disk_moment c moments k) image (omega arith) at);
+        beside = λ k le. ap port_after (past_done c c' moments Disk ticks k le);
+        no_more_choices = λ k choice le at. tt;
+        no_fewer_choices = λ k choice le at. tt;
+      };
       each = λ k image low high at. ⊎_elim (λ early. each_early k image early at) (λ late. each_late k image late at) (early_or_late k low high);
-      past = λ k le. ap port_after (past_done c c' moments Disk ticks k le);
       stands = λ k low high. ⊎_elim (λ early. stands_early k early) (λ late. stands_late k late) (early_or_late k low high);
-      no_more_choices = λ k choice le at. tt;
-      no_fewer_choices = λ k choice le at. tt;
       choices_stand = λ k choice low high at. tt;
+      choices_stay = λ k choice low high at. tt;
     }
 
   module _ (old new : E) (moments : List Moment) (ticks : told.clock new ≡ told.clock old) (P : List ℕ → Type 0) (run : DiskRun told old new P) where
@@ -99,22 +104,25 @@ module _ {E B C : Type 0} (told : Meaning E B C) where
     -- a call that found no memory is none
     pub unticked : DiskRun (on_pairs told) (old, moments) (new, moments) P
     unticked = record {
-      later = omega (arith, ticks);
-      no_more = λ k image le at.
-          run.no_more (disk_moment (told.clock old) moments k) image (omega arith) (subst (λ (m : ℕ). told.image_at new m image) (same_moment k) at);
-      no_fewer = λ k image le at.
-          subst (λ (m : ℕ). told.image_at new m image) (sym (same_moment k)) (run.no_fewer (disk_moment (told.clock old) moments k) image (omega arith) at);
+      past = record {
+        later = omega (arith, ticks);
+        no_more = λ k image le at.
+            run.past.no_more (disk_moment (told.clock old) moments k) image (omega arith) (subst (λ (m : ℕ). told.image_at new m image) (same_moment k) at);
+        no_fewer = λ k image le at.
+            subst (λ (m : ℕ). told.image_at new m image) (sym (same_moment k)) (run.past.no_fewer (disk_moment (told.clock old) moments k) image (omega arith) at);
+        beside = λ k le. ap (λ (n : ℕ). port_after (take (past_by n moments k) moments)) ticks;
+        no_more_choices = λ k choice le at. tt;
+        no_fewer_choices = λ k choice le at. tt;
+      };
       each = λ k image low high at.
           let is : k ≡ told.clock new + ports moments = omega (arith, ticks, low, high) in
           let place : disk_moment (told.clock new) moments k ≡ told.clock new = ap (disk_moment (told.clock new) moments) is ∙ moment_now (told.clock new) moments in
-          run.each (told.clock new) image run.later (omega arith) (subst (λ (m : ℕ). told.image_at new m image) place at);
-      past = λ k le. ap (λ (n : ℕ). port_after (take (past_by n moments k) moments)) ticks;
+          run.each (told.clock new) image run.past.later (omega arith) (subst (λ (m : ℕ). told.image_at new m image) place at);
       stands = λ k low high.
           let is : k ≡ told.clock old + ports moments = omega (arith, ticks, low, high) in
           ap (λ (n : ℕ). port_after (take (past_by n moments k) moments)) ticks ∙ ap (λ (m : ℕ). port_after (take (past_by (told.clock old) moments m) moments)) is;
-      no_more_choices = λ k choice le at. tt;
-      no_fewer_choices = λ k choice le at. tt;
       choices_stand = λ k choice low high at. tt;
+      choices_stay = λ k choice low high at. tt;
     }
 
   -- each call of the disk
@@ -154,18 +162,34 @@ module _ {E B C : Type 0} (told : Meaning E B C) where
     -- the images stand, and the port is as it was or as it is afterwards
     pub ported : (Q : PortState → Type 0) → Q (port_after moments) → Q (port_after then_more) → PortRun (on_pairs told) (disk, moments) (disk, then_more) Q
     ported Q before after = record {
-      later = omega (arith, port_clock);
-      no_more = λ k image le at. subst (λ (m : ℕ). told.image_at disk m image) (at_start k le) at;
-      no_fewer = λ k image le at. subst (λ (m : ℕ). told.image_at disk m image) (sym (at_start k le)) at;
+      past = record {
+        later = omega (arith, port_clock);
+        no_more = λ k image le at. subst (λ (m : ℕ). told.image_at disk m image) (at_start k le) at;
+        no_fewer = λ k image le at. subst (λ (m : ℕ). told.image_at disk m image) (sym (at_start k le)) at;
+        beside = λ k le. ap port_after (past_done d d moments moment still k le);
+        no_more_choices = λ k choice le at. tt;
+        no_fewer_choices = λ k choice le at. tt;
+      };
       images_stand = λ k image low high at. ⊎_elim
-          (λ early. subst (λ (m : ℕ). told.image_at disk m image) (at_start k (omega (arith, early)) ∙ ap (disk_moment d moments) early) at)
-          (λ late. subst (λ (m : ℕ). told.image_at disk m image) (ap (disk_moment d then_more) late ∙ moment_now d then_more ∙ sym (moment_now d moments)) at)
+          (λ early. subst (λ (m : ℕ). told.image_at disk m image) (place_first k early) at)
+          (λ late. subst (λ (m : ℕ). told.image_at disk m image) (place_last k late) at)
           (first_or_last k low high);
-      past = λ k le. ap port_after (past_done d d moments moment still k le);
+      images_stay = λ k image low high at. ⊎_elim
+          (λ early. subst (λ (m : ℕ). told.image_at disk m image) (sym (place_first k early)) at)
+          (λ late. subst (λ (m : ℕ). told.image_at disk m image) (sym (place_last k late)) at)
+          (first_or_last k low high);
       each = λ k low high. ⊎_elim
           (λ early. subst Q (sym (beside_first k early)) before)
           (λ late. subst Q (sym (beside_last k late)) after)
           (first_or_last k low high);
-      no_more_choices = λ k choice le at. tt;
-      no_fewer_choices = λ k choice le at. tt;
     }
+      where
+        -- the disk's own moment at the start
+        at_now : ℕ
+        at_now = disk_moment d moments (d + ports moments)
+
+        place_first : (k : ℕ) → k ≡ d + ports moments → disk_moment d then_more k ≡ at_now
+        place_first k early = at_start k (omega (arith, early)) ∙ ap (disk_moment d moments) early
+
+        place_last : (k : ℕ) → k ≡ d + ports then_more → disk_moment d then_more k ≡ at_now
+        place_last k late = ap (disk_moment d then_more) late ∙ moment_now d then_more ∙ sym (moment_now d moments)

@@ -1,19 +1,21 @@
 -- What the cards of a site keep while the port works.
-use Rattle.std.specs.Prelude.{◌≡◌, ◌⊎◌, ℕ, ◌<◌, ◌≤◌, Bool, true, List, [], ◌∷◌, ◌++◌, Some}
-use Rattle.ota_core.specs.Keyset.{Keyset}
+use Rattle.std.specs.Prelude.{◌≡◌, ◌⊎◌, ℕ, ◌<◌, ◌≤◌, true, List, [], ◌∷◌, ◌++◌, Some}
 use Rattle.ota_core.specs.declared.cards.CardFacts.{CardFacts}
 use Rattle.ota_core.specs.declared.keysets.KeysetFacts.{KeysetFacts}
 use Rattle.disk_model.specs.Disk.{Meaning}
 use Rattle.world_core.specs.Members.{In}
-use Rattle.world_core.specs.Card.{CardState, facts_under, stored_counter, IsLine, IsCardState}
+use Rattle.world_core.specs.Card.{facts_under, stored_counter, IsLine, IsCardState}
 use Rattle.world_core.specs.declared.answers.Made.{Made}
 use Rattle.world_core.specs.declared.lines.Line.{Line}
 use Rattle.site_model.specs.Port.{PortState}
 
--- a line that the card may log behind these: its counter is above the one that the card has stored for its keyset
+-- a line that the card may log behind these: its keyset is one of the card's, and its counter is above the one that the
+-- card has stored for it
 pub record MayFollow (facts : CardFacts) (before : List Line) (line : Line) : Type 0 where
   pub is_line : IsLine facts line
-  pub above : (own : KeysetFacts) → facts_under line.keyset.kvn facts.keysets ≡ Some own → stored_counter own.base line.keyset before < line.counter
+  pub own : KeysetFacts
+  pub is_own : facts_under line.keyset.kvn facts.keysets ≡ Some own
+  pub above : stored_counter own.base line.keyset before < line.counter
 
 abbrev pub MayFollowAll : CardFacts → List Line → List Line → Type 0
 MayFollowAll facts before [] = Unit {0}
@@ -47,8 +49,18 @@ pub record IsLineOf (made : Made) (line : Line) : Type 0 where
   pub status : line.status ≡ made.status
   pub answer : line.answer ≡ made.answer
 
+-- the statuses of a packet whose counter the card used up (ETSI TS 102 225, 5.2.2)
 abbrev pub IsTaken : ℕ → Type 0
 IsTaken status = (status ≡ 0x00) ⊎ (status ≡ 0x07) ⊎ (status ≡ 0x09)
+
+-- an answer of one of these cards, under a keyset that the card has
+pub record IsOfCards (cards : List CardFacts) (made : Made) : Type 0 where
+  pub card : CardFacts
+  pub is_there : In card cards
+  pub of_card : made.card ≡ card.card
+  pub of_keyset : made.keyset.card ≡ card.card
+  pub own : KeysetFacts
+  pub is_own : facts_under made.keyset.kvn card.keysets ≡ Some own
 
 -- one list is the other and what joined it
 abbrev pub Begins : {X : Type 0} → List X → List X → Type 0
@@ -62,7 +74,8 @@ module _ {D B C : Type 0} (told : Meaning D B C) (port : B → PortState) (lines
   port_now site = port_at site (told.clock site)
 
   -- At each moment of a call of the port: what was sent, given and made grows, and no facts change. What the cards may
-  -- have logged goes on from what they may have logged before, and an answer is made only once its line is logged.
+  -- have logged goes on from what they may have logged before, and an answer is made by one of the cards, once its line is
+  -- logged.
   pub record Keeps (old new : D) : Type 0 where
     pub facts : (k : ℕ) → told.clock old ≤ k → k ≤ told.clock new → (port_at new k).facts ≡ (port_now old).facts
     pub sent : (k l : ℕ) → told.clock old ≤ k → k ≤ l → l ≤ told.clock new → Begins (port_at new k).sent (port_at new l).sent
@@ -79,4 +92,8 @@ module _ {D B C : Type 0} (told : Meaning D B C) (port : B → PortState) (lines
         → (k : ℕ) (now : C) (card : CardFacts) → told.clock old ≤ k → k ≤ told.clock new → told.choice_at new k now → In card (port_now old).facts
         → IsCardState (record { facts = card; log = lines now card.card.0 })
     pub answers : (k : ℕ) (made : Made) → told.clock old ≤ k → k ≤ told.clock new → In made (port_at new k).made
-        → In made (port_now old).made ⊎ (IsTaken made.status → (now : C) → told.choice_at new k now → (line : Line) × In line (lines now made.keyset.card.0) × IsLineOf made line)
+        → In made (port_now old).made ⊎ (IsOfCards (port_now old).facts made × (IsTaken made.status → (now : C) → told.choice_at new k now → (line : Line) × In line (lines now made.keyset.card.0) × IsLineOf made line))
+
+  -- something may be chosen at that moment
+  abbrev pub HasChoice : D → ℕ → Type 0
+  HasChoice site moment = (choice : C) × told.choice_at site moment choice

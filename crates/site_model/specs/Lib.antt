@@ -1,6 +1,9 @@
 pub mod Port
+pub mod Pieces
 pub mod Cards
 pub mod Runs
 pub mod Causes
 pub mod Moments
 pub mod Bare
+pub mod BareTold
+pub mod Giving

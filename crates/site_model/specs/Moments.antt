@@ -1,13 +1,14 @@
 -- The moments of a bare site: the time of its disk and that of its port, on one clock.
 use Rattle.std.specs.Prelude.{◌≡◌, ◌≤◌, ℕ, ◌+◌, ◌-◌, List, [], ◌∷◌, ◌++◌, length, take, drop, Result, Ok, Err, refl}
-use Rattle.std.proofs.Common.{arith, sym, ◌∙◌, ap, length-append}
-use Rattle.std.proofs.lemmas.List.{take-append-le, drop-append-le, take_all, drop_all, append-nil}
+use Rattle.std.proofs.Common.{arith, ◌∙◌, ap, length-append}
+use Rattle.std.proofs.lemmas.List.{take-append-le, drop-append-le, drop_all}
 use Rattle.disk_model.specs.declared.faults.DiskFault.{DiskFault}
 use Rattle.disk_model.specs.declared.faults.DiskFault.TheVariants.{Failed, Memory}
 use Rattle.disk_model.specs.Disk.{Meaning}
 use Rattle.site_model.specs.declared.departures.Departure.{Departure}
 use Rattle.site_model.specs.declared.moments.Moment.{Moment}
-use Rattle.site_model.specs.declared.moments.Moment.TheVariants.{Disk, Sent, Polled}
+use Rattle.site_model.specs.declared.moments.Moment.TheVariants.{Disk, Sent, Gave, Polled}
+use Rattle.ota_core.specs.declared.cards.CardId.{CardId}
 use Rattle.site_model.specs.Port.{PortState}
 
 -- how many moments were the port's, and how many the disk's
@@ -15,30 +16,41 @@ abbrev pub ports : List Moment → ℕ
 ports [] = 0
 ports (Disk ∷ moments) = ports moments
 ports (Sent departure ∷ moments) = ports moments + 1
+ports (Gave given ∷ moments) = ports moments + 1
 ports (Polled ∷ moments) = ports moments + 1
 
 abbrev pub disks : List Moment → ℕ
 disks [] = 0
 disks (Disk ∷ moments) = disks moments + 1
 disks (Sent departure ∷ moments) = disks moments
+disks (Gave given ∷ moments) = disks moments
 disks (Polled ∷ moments) = disks moments
 
--- what was sent, and how often the port was asked
+-- what was sent, what was given, and how often the port was asked
 abbrev pub sent_in : List Moment → List Departure
 sent_in [] = []
 sent_in (Disk ∷ moments) = sent_in moments
 sent_in (Sent departure ∷ moments) = departure ∷ sent_in moments
+sent_in (Gave given ∷ moments) = sent_in moments
 sent_in (Polled ∷ moments) = sent_in moments
+
+abbrev pub given_in : List Moment → List (CardId × List ℕ)
+given_in [] = []
+given_in (Disk ∷ moments) = given_in moments
+given_in (Sent departure ∷ moments) = given_in moments
+given_in (Gave given ∷ moments) = (given.card, given.message) ∷ given_in moments
+given_in (Polled ∷ moments) = given_in moments
 
 abbrev pub polls_in : List Moment → ℕ
 polls_in [] = 0
 polls_in (Disk ∷ moments) = polls_in moments
 polls_in (Sent departure ∷ moments) = polls_in moments
+polls_in (Gave given ∷ moments) = polls_in moments + 1
 polls_in (Polled ∷ moments) = polls_in moments + 1
 
 -- a port without cards after these moments
 abbrev pub port_after : List Moment → PortState
-port_after moments = record { sent = sent_in moments; given = []; facts = []; made = []; polls = polls_in moments }
+port_after moments = record { sent = sent_in moments; given = given_in moments; facts = []; made = []; polls = polls_in moments }
 
 -- where the disk's clock is at c now: how many moments ago the moment k was
 abbrev pub ago : ℕ → List Moment → ℕ → ℕ
@@ -75,30 +87,42 @@ pub disks-append : (one other : List Moment) → disks (one ++ other) ≡ disks 
 disks-append [] other = omega arith
 disks-append (Disk ∷ one) other = omega (arith, disks-append one other)
 disks-append (Sent departure ∷ one) other = disks-append one other
+disks-append (Gave given ∷ one) other = disks-append one other
 disks-append (Polled ∷ one) other = disks-append one other
 
 pub ports-append : (one other : List Moment) → ports (one ++ other) ≡ ports one + ports other
 ports-append [] other = omega arith
 ports-append (Disk ∷ one) other = ports-append one other
 ports-append (Sent departure ∷ one) other = omega (arith, ports-append one other)
+ports-append (Gave given ∷ one) other = omega (arith, ports-append one other)
 ports-append (Polled ∷ one) other = omega (arith, ports-append one other)
 
 pub sent_in-append : (one other : List Moment) → sent_in (one ++ other) ≡ sent_in one ++ sent_in other
 sent_in-append [] other = refl
 sent_in-append (Disk ∷ one) other = sent_in-append one other
 sent_in-append (Sent departure ∷ one) other = ap (λ (l : List Departure). departure ∷ l) (sent_in-append one other)
+sent_in-append (Gave given ∷ one) other = sent_in-append one other
 sent_in-append (Polled ∷ one) other = sent_in-append one other
+
+pub given_in-append : (one other : List Moment) → given_in (one ++ other) ≡ given_in one ++ given_in other
+given_in-append [] other = refl
+given_in-append (Disk ∷ one) other = given_in-append one other
+given_in-append (Sent departure ∷ one) other = given_in-append one other
+given_in-append (Gave given ∷ one) other = ap (λ (l : List (CardId × List ℕ)). (given.card, given.message) ∷ l) (given_in-append one other)
+given_in-append (Polled ∷ one) other = given_in-append one other
 
 pub polls_in-append : (one other : List Moment) → polls_in (one ++ other) ≡ polls_in one + polls_in other
 polls_in-append [] other = omega arith
 polls_in-append (Disk ∷ one) other = polls_in-append one other
 polls_in-append (Sent departure ∷ one) other = polls_in-append one other
+polls_in-append (Gave given ∷ one) other = omega (arith, polls_in-append one other)
 polls_in-append (Polled ∷ one) other = omega (arith, polls_in-append one other)
 
 -- a moment is the disk's or the port's
 pub one_moment : (moment : Moment) → ports (moment ∷ []) + disks (moment ∷ []) ≡ 1
 one_moment Disk = refl
 one_moment (Sent departure) = refl
+one_moment (Gave given) = refl
 one_moment Polled = refl
 
 -- now

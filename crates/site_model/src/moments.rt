@@ -5,6 +5,7 @@ ghost use Rattle.site_model.specs.Moments.{moments_after};
 
 use crate::Departure;
 use disk_model::DiskFault;
+use ota_core::{CardId, Octets};
 use std::alloc::AllocError;
 
 /// What happened in a moment.
@@ -14,8 +15,17 @@ pub(crate) enum Moment {
     Disk,
     /// A piece was handed to the port.
     Sent(Departure),
-    /// The port was asked for a message.
+    /// The port was asked for a message, and gave this one.
+    Gave(Given),
+    /// The port was asked for a message, and had none.
     Polled,
+}
+
+/// A message of a card.
+#[derive(Drop)]
+pub(crate) struct Given {
+    pub card: CardId,
+    pub message: Octets,
 }
 
 /// Makes room for one more.

@@ -1,13 +1,12 @@
 // A site: its calls, and what it tells of them.
 ghost use Rattle.std.specs.Prelude.{◌≡◌, ◌≤◌, ◌+◌, ℕ, [], ◌∷◌, ◌++◌, List, length, IfOk, OnOk, IfNone, IfSome};
-ghost use Rattle.disk_model.specs.Counts.{HasRisen};
 ghost use Rattle.disk_model.specs.Disk.{Tells};
-ghost use Rattle.world_core.specs.Packet.{pieces_of_length};
 ghost use Rattle.world_core.specs.declared.lines.Line.{Line};
 ghost use Rattle.site_model.specs.Port.{PortState, IsSending, IsPolling};
-ghost use Rattle.site_model.specs.Cards.{Keeps, port_now};
+ghost use Rattle.site_model.specs.Cards.{HasChoice, Keeps, port_now};
 ghost use Rattle.site_model.specs.Runs.{PortRun};
-ghost use Rattle.site_model.specs.Causes.{HasSiteCause};
+ghost use Rattle.site_model.specs.Causes.{HasSiteCause, CountsEmpty, empty_polls};
+ghost use Rattle.site_model.specs.Pieces.{pieces_under};
 
 use crate::SiteFault;
 use arrayvec::ArrayVec;
@@ -19,6 +18,8 @@ use ota_core::{CardId, Reference};
 ///
 /// One clock covers both. In a call of the disk what stands beside it stays, and in a call of the port the images of the
 /// disk stay. A card that acts while the gateway writes counts as acting in the next call of the port.
+///
+/// What is counted beside the disk is how often a poll found no message.
 pub trait SiteCalls: DiskCalls {
     /// What stands beside the disk is the port.
     ghost port: { Self.Beside → PortState };
@@ -26,11 +27,8 @@ pub trait SiteCalls: DiskCalls {
     /// What may be chosen is, for each number of a card, lines that a power cut may leave.
     ghost lines: { Self.Choice → ℕ → List Line };
 
-    /// How often a poll found no message.
-    ghost empty_polls: { Self → ℕ };
-
-    /// Hands a piece of a packet to the port: its place, from 1, among the pieces that the packet leaves in
-    /// (3GPP TS 23.040, 9.2.3.24).
+    /// Hands a piece of a packet to the port: its place, from 1, among the pieces that the packet leaves in under this
+    /// reference (3GPP TS 23.040, 9.2.3.24.1 and 9.2.3.24.8).
     fn send(
         &mut self,
         card: CardId,
@@ -39,13 +37,13 @@ pub trait SiteCalls: DiskCalls {
         place: u8,
     ) -> Result<(), SiteFault>
         requires first { 1 ≤ place }
-        requires last { place ≤ pieces_of_length (length packet.now) }
+        requires last { place ≤ pieces_under reference (length packet.now) }
         ensures sent { Tells Self.told self.old → OnOk result ((port_now Self.told port lines self.new).sent ≡ (port_now Self.told port lines self.old).sent ++ record { card = card; packet = packet.now; reference = reference; place = place } ∷ []) }
         ensures moments { Tells Self.told self.old → PortRun Self.told self.old self.new (λ beside. IsSending (port_now Self.told port lines self.old) (port beside) (record { card = card; packet = packet.now; reference = reference; place = place })) }
         ensures keeps { Tells Self.told self.old → Keeps Self.told port lines self.old self.new }
         ensures content { Tells Self.told self.old → Self.told.seen self.new ≡ Self.told.seen self.old }
         ensures tells { Self.told.tells self.new ≡ Self.told.tells self.old }
-        ensures empty_polls { empty_polls self.old ≤ empty_polls self.new }
+        ensures empty_polls { empty_polls (Self.counts self.new) ≡ empty_polls (Self.counts self.old) }
         ensures cause { HasSiteCause (Self.counts self.old) (Self.counts self.new) result };
 
     /// The next message of a card, or None where the port has none now.
@@ -57,9 +55,11 @@ pub trait SiteCalls: DiskCalls {
         ensures keeps { Tells Self.told self.old → Keeps Self.told port lines self.old self.new }
         ensures content { Tells Self.told self.old → Self.told.seen self.new ≡ Self.told.seen self.old }
         ensures tells { Self.told.tells self.new ≡ Self.told.tells self.old }
-        ensures empty_polls { empty_polls self.old ≤ empty_polls self.new }
-        ensures empty { IfOk result (λ message. IfNone message (HasRisen (empty_polls self.old) (empty_polls self.new))) }
+        ensures empty { CountsEmpty (Self.counts self.old) (Self.counts self.new) result }
         ensures cause { HasSiteCause (Self.counts self.old) (Self.counts self.new) result };
+
+    /// At each moment something may be chosen: for each card there are lines that a power cut may leave.
+    ghost has_choice: { (site : Self) → Tells Self.DiskCalls.told site → (moment : ℕ) → moment ≤ Self.DiskCalls.told.clock site → HasChoice Self.DiskCalls.told port lines site moment };
 }
 
 /// A site that threads may share.

@@ -1,9 +1,7 @@
-use Rattle.std.proofs.Common.{◌≡◌, ◌∙◌, ap, refl, length}
-use Rattle.disk_model.specs.Disk.{Torn, Cut}
-use Rattle.disk_model.specs.Writing.{torn-same, cut-same}
+use Rattle.std.proofs.Common.{◌∙◌, ap}
 use Rattle.site_model.specs.Moments.{moments_after}
 use Rattle.site_model.specs.Bare.{now_pair}
-use Rattle.site_model.proofs.Calls.{call_run, stood_run, call_ticks, follows_pair}
+use Rattle.site_model.proofs.Calls.{call_run, call_ticks}
 use Rattle.site_model.proofs.bare_site.BareSiteDiskCalls.read_at.Goals as goal
 
 pub returns-clause-moments : goal.returns-clause-moments

@@ -1,8 +1,7 @@
-use Rattle.std.proofs.Common.{◌≡◌, ◌∙◌, ap, refl, length}
-use Rattle.disk_model.specs.Disk.{Torn, Cut}
-use Rattle.disk_model.specs.Writing.{torn-same, cut-same}
+use Rattle.std.proofs.Common.{◌∙◌, ap, refl, length}
+use Rattle.disk_model.specs.Disk.{Torn}
+use Rattle.disk_model.specs.Writing.{torn-same}
 use Rattle.site_model.specs.Moments.{moments_after}
-use Rattle.site_model.specs.Bare.{now_pair}
 use Rattle.site_model.proofs.Calls.{call_run, stood_run, call_ticks, follows_pair}
 use Rattle.site_model.proofs.bare_site.BareSiteDiskCalls.write_at.Goals as goal
 

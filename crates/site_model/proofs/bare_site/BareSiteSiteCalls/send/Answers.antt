@@ -1,4 +1,4 @@
-use Rattle.std.proofs.Common.{◌≡◌, ◌∙◌, ◌++◌, ◌∷◌, [], List, ap, refl}
+use Rattle.std.proofs.Common.{◌∙◌, ◌++◌, ◌∷◌, [], List, ap}
 use Rattle.site_model.specs.declared.departures.Departure.{Departure}
 use Rattle.site_model.specs.declared.moments.Moment.{Moment}
 use Rattle.site_model.specs.declared.moments.Moment.TheVariants.{Sent}
