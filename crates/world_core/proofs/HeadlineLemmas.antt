@@ -299,6 +299,7 @@ issued_sound cards differ = record {
   cards = λ state i. (let found = issued_state cards state i in subst (λ (s : CardState). IsCardState s) (sym found.1) (new_is_card found.0));
   reserved = λ line i. absurd (no_lines cards line i);
   answers = λ made i. absurd i;
+  own = λ made i. absurd i;
   given = λ position i. absurd i;
   reports = λ entry i. absurd i;
 }

@@ -1,6 +1,7 @@
 pub mod Walks
 pub mod Basics
 pub mod HistoryFacts
+pub mod WholePackets
 pub mod CardLemmas
 pub mod DeliveryLemmas
 pub mod SoundLemmas

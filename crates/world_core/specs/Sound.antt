@@ -4,7 +4,7 @@ use Rattle.ota_core.specs.History.{IsLegal}
 use Rattle.ota_core.specs.declared.cards.CardId.{CardId}
 use Rattle.world_core.specs.Members.{In}
 use Rattle.world_core.specs.WorldState.{WorldState, written}
-use Rattle.world_core.specs.Headline.{SentIsReserved, LogsAreSound, TrueReports, LinesAreReserved, AnswersAreTrue, GivenWasMade}
+use Rattle.world_core.specs.Headline.{SentIsReserved, LogsAreSound, TrueReports, LinesAreReserved, AnswersAreTrue, AnswersAreOwn, GivenWasMade}
 
 -- the numbers differ
 abbrev pub Differ : List CardId → Type 0
@@ -18,5 +18,6 @@ pub record IsSound (w : WorldState) : Type 0 where
   pub cards : LogsAreSound w
   pub reserved : LinesAreReserved w
   pub answers : AnswersAreTrue w
+  pub own : AnswersAreOwn w
   pub given : GivenWasMade w
   pub reports : TrueReports w

@@ -5,7 +5,7 @@ ghost use Rattle.world_core.specs.WorldState.{issued, written};
 ghost use Rattle.world_core.specs.Condition.{IsAllowed};
 ghost use Rattle.world_core.specs.Effect.{world_step};
 ghost use Rattle.world_core.specs.Run.{IsRefusalOf, Runs, StopsAt};
-ghost use Rattle.world_core.specs.Headline.{SentIsReserved, OneCounter, AtMostOnce, TrueReports, LinesAreReserved, LogsAreSound, AnswersAreTrue, GivenWasMade};
+ghost use Rattle.world_core.specs.Headline.{SentIsReserved, OneCounter, AtMostOnce, TrueReports, LinesAreReserved, LogsAreSound, AnswersAreTrue, AnswersAreOwn, GivenWasMade};
 ghost use Rattle.world_core.specs.Sound.{Differ};
 
 use crate::answers::Made;
@@ -71,6 +71,7 @@ impl World {
         ensures lines_reserved { LinesAreReserved self.new }
         ensures logs_sound { LogsAreSound self.new }
         ensures answers_true { AnswersAreTrue self.new }
+        ensures answers_own { AnswersAreOwn self.new }
         ensures given_made { GivenWasMade self.new }
     {
         let outcome = self.run_all(events);
@@ -98,6 +99,7 @@ impl World {
     pub fn made(&self) -> &[Made]
         ensures made { result.now ≡ self.now.made }
         ensures answers_true { AnswersAreTrue self.now }
+        ensures answers_own { AnswersAreOwn self.now }
     {
         self.parts.made()
     }

@@ -2,7 +2,7 @@ use Rattle.std.proofs.Common.{subst}
 use Rattle.world_core.specs.WorldState.{WorldState}
 use Rattle.ota_core.specs.History.{IsLegal}
 use Rattle.world_core.proofs.SoundLemmas.{legal_history}
-use Rattle.world_core.specs.Headline.{SentIsReserved, LogsAreSound, AnswersAreTrue, AtMostOnce, GivenWasMade, LinesAreReserved, OneCounter}
+use Rattle.world_core.specs.Headline.{SentIsReserved, LogsAreSound, AnswersAreTrue, AnswersAreOwn, AtMostOnce, GivenWasMade, LinesAreReserved, OneCounter}
 use Rattle.world_core.proofs.HeadlineLemmas.{at_most_once, one_counter}
 use Rattle.world_core.proofs.worlds.World.run.Goals as goal
 
@@ -29,3 +29,6 @@ returns-clause-sent_reserved c = subst (λ (w : WorldState). SentIsReserved w) c
 
 pub returns-clause-logs_sound : goal.returns-clause-logs_sound
 returns-clause-logs_sound c = subst (λ (w : WorldState). LogsAreSound w) c.self.view_is (c.self.invariant.cards)
+
+pub returns-clause-answers_own : goal.returns-clause-answers_own
+returns-clause-answers_own c = subst (λ (w : WorldState). AnswersAreOwn w) c.self.view_is (c.self.invariant.own)
