@@ -8,7 +8,7 @@ use Rattle.ota_core.specs.declared.jobs.JobId.{JobId}
 use Rattle.ota_core.specs.declared.entries.Entry.{Entry}
 use Rattle.ota_core.specs.declared.entries.Entry.TheVariants.{Reserve, Done, Refused}
 use Rattle.world_core.specs.Members.{In}
-use Rattle.world_core.specs.Packet.{Packet, packet_at, reserved_at, pieces_of}
+use Rattle.world_core.specs.Packet.{Packet, packet_at, place_at, pieces_of}
 use Rattle.world_core.specs.Card.{CardState, log_of, IsCardState}
 use Rattle.world_core.specs.WorldState.{WorldState, written}
 use Rattle.world_core.specs.declared.segments.Sent.{Sent}
@@ -26,7 +26,7 @@ SentIsReserved w = (piece : Sent) → In piece w.sent → IsReserved w.history p
 -- pieces that left with one keyset and counter are of one reservation
 abbrev pub OneCounter : WorldState → Type 0
 OneCounter w =
-    (a b : Sent) → In a w.sent → In b w.sent → reserved_at w.history a.reservation ≡ reserved_at w.history b.reservation
+    (a b : Sent) → In a w.sent → In b w.sent → place_at w.history a.reservation ≡ place_at w.history b.reservation
     → a.reservation ≡ b.reservation
 
 -- the lines of all cards
