@@ -16,17 +16,11 @@ use Rattle.world_core.specs.declared.card_steps.CardStep.{CardStep}
 use Rattle.world_core.specs.declared.card_steps.CardStep.TheVariants.{Answered, Took}
 use Rattle.world_core.specs.Headline.{all_lines}
 use Rattle.world_core.specs.declared.lines.Line.{Line}
-use Rattle.world_core.proofs.Basics.{true_not_false, In-left, In-push_cases, In-push, In-reverse, In-from_reverse, In-flat_map, In-from_flat_map}
+use Rattle.world_core.specs.WorldLaws.{number_of, is_card-true}
+use Rattle.world_core.specs.MemberLaws.{true_not_false, In-left, In-push_cases, In-push, In-reverse, In-from_reverse, In-flat_map, In-from_flat_map}
 
 abbrev pub with_lines : CardState → List Line → CardState
 with_lines state lines = record { facts = state.facts; log = state.log ++ lines }
-
-abbrev pub number_of : CardState → CardId
-number_of state = state.facts.card
-
--- each test of a keyset of a card: no number differs from itself
-pub is_card-true : (card : CardId) (state : CardState) → is_card card state ≡ true → state.facts.card ≡ card
-is_card-true card state h = grind (arith, common_steps, nat_tests, h)
 
 found_first : (card : CardId) (first : CardState) (cards : List CardState) (state : CardState) (t : Bool) → is_card card first ≡ t
     → (find_card card cards ≡ Some state → In state cards × (is_card card state ≡ true))
@@ -104,19 +98,6 @@ all_lines-logged cards card line new h =
             | inr e ↦ inr e
           ])
     ]
-
--- a line of a card's log is a line of that card
-abbrev pub StandsIn : List CardState → CardId → Line → Type 0
-StandsIn cards card line = (state : CardState) × In state cards × (state.facts.card ≡ card) × In line state.log
-
-stands_first : (first : CardState) (cards : List CardState) (card : CardId) (line : Line) (t : Bool) → is_card card first ≡ t
-    → (In line (log_of cards card) → StandsIn cards card line) → In line (log_of (first ∷ cards) card) → StandsIn (first ∷ cards) card line
-stands_first first cards card line true is later h = (first, inl refl, is_card-true card first is, rw is at h)
-stands_first first cards card line false is later h = (let found = later (rw is at h) in (found.0, inr found.1, found.2, found.3))
-
-pub log_of-In : (cards : List CardState) (card : CardId) (line : Line) → In line (log_of cards card) → StandsIn cards card line
-log_of-In [] card line h = absurd h
-log_of-In (first ∷ cards) card line h = stands_first first cards card line (is_card card first) refl (log_of-In cards card line) h
 
 -- no line of the keyset has a counter above the stored one
 above_first : (base : ℕ) (newest : Line) (past : List Line) (keyset : Keyset) (line : Line)

@@ -25,9 +25,10 @@ use Rattle.world_core.specs.declared.answers.Made.{Made}
 use Rattle.world_core.specs.declared.card_steps.CardStep.{CardStep}
 use Rattle.world_core.specs.declared.card_steps.CardStep.TheVariants as step
 use Rattle.world_core.specs.declared.refusals.NotAllowed.TheVariants as refusal
-use Rattle.world_core.proofs.Basics.{In-push_cases, slice_get-In, holds, and_then-some, map-some}
+use Rattle.world_core.specs.MemberLaws.{In-push_cases, slice_get-In, holds, and_then-some, map-some}
 use Rattle.world_core.proofs.HistoryFacts.{packet_at-entry}
-use Rattle.world_core.proofs.CardLemmas.{with_lines, is_card-true, find_card-In, numbers-logged, logged-cases, log_of-logged, log_of-logged_new, all_lines-logged, stored_counter-above, stored_counter-from, IsRising-push, IsTaking, MaySay, taking, answering}
+use Rattle.world_core.proofs.CardLemmas.{with_lines, find_card-In, numbers-logged, logged-cases, log_of-logged, log_of-logged_new, all_lines-logged, stored_counter-above, stored_counter-from, IsRising-push, IsTaking, MaySay, taking, answering}
+use Rattle.world_core.specs.WorldLaws.{is_card-true}
 use Rattle.world_core.proofs.WholePackets.{whole_of_first}
 use Rattle.world_core.proofs.Walks.{logged_nothing}
 

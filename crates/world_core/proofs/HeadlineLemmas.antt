@@ -24,9 +24,10 @@ use Rattle.world_core.specs.WorldState.{WorldState, issued}
 use Rattle.world_core.specs.Headline.{OneCounter, all_lines, place_of, is_reserve_for, is_run_of, AtMostOnce}
 use Rattle.world_core.specs.Sound.{Differ, IsSound}
 use Rattle.world_core.specs.declared.lines.Line.{Line}
-use Rattle.world_core.proofs.Basics.{In-left, In-right, In-reverse, In-from_reverse, In-map, In-from_flat_map, list_any-In, list_any-from_In, and_then-some}
-use Rattle.world_core.proofs.HistoryFacts.{packet_at-place, reserves, reserved_is_next}
-use Rattle.world_core.proofs.CardLemmas.{number_of, log_of-In, IsRising-one_line}
+use Rattle.world_core.specs.MemberLaws.{In-left, In-right, In-reverse, In-from_reverse, In-map, In-from_flat_map, list_any-In, list_any-from_In, and_then-some}
+use Rattle.world_core.proofs.HistoryFacts.{packet_at-place, reserved_is_next}
+use Rattle.world_core.proofs.CardLemmas.{IsRising-one_line}
+use Rattle.world_core.specs.WorldLaws.{number_of, log_of-In, reserves}
 use Rattle.world_core.proofs.SoundLemmas.{legal_history}
 use Rattle.world_core.proofs.Walks.{list_any_reverse}
 

@@ -16,7 +16,7 @@ use Rattle.ota_core.specs.declared.entries.Entry.{Entry}
 use Rattle.ota_core.specs.declared.entries.Entry.TheVariants.{Open, Reserve, Done, Refused, Close}
 use Rattle.world_core.specs.Members.{In}
 use Rattle.world_core.specs.Packet.{Packet, packet_of, packet_at, place_at}
-use Rattle.world_core.proofs.Basics.{true_not_false, In-reverse, slice_get-left, first_some-left, and_then-some, map-some, or_cases}
+use Rattle.world_core.specs.MemberLaws.{true_not_false, In-reverse, slice_get-left, first_some-left, and_then-some, map-some, or_cases}
 
 -- the packet of a reservation stays when the history grows
 packet_of-left : (history rest : List Entry) (entry : Entry) (packet : Packet) → packet_of history entry ≡ Some packet → packet_of (history ++ rest) entry ≡ Some packet
@@ -55,16 +55,6 @@ packet_at-entry history position packet h =
 pub packet_at-place : (history : List Entry) (position : ℕ) (packet : Packet) → packet_at history position ≡ Some packet
     → place_at history position ≡ Some (record { keyset = packet.keyset; counter = packet.counter })
 packet_at-place history position packet h = (let entry = packet_at-entry history position packet h in rw entry.4 refl)
-
--- an entry that reserves a counter passes the test of that counter
-pub reserves : (place : Reservation) (entry : Entry) → reserved_by entry ≡ Some place → is_reserve_of place entry ≡ true
-reserves place (Open by moment keyset facts) h = cc
-reserves place (Reserve by moment keyset counter job tar name body) h =
-    let e : (let p : Reservation = record { keyset = keyset; counter = counter } in p) ≡ place = cc in
-    rw (← e) (grind (arith, common_steps, nat_tests, is_same_keyset-refl keyset))
-reserves place (Done by moment keyset counter answer) h = cc
-reserves place (Refused by moment keyset counter status) h = cc
-reserves place (Close by moment keyset) h = cc
 
 -- an entry that reserves a counter legally reserves the one that comes next
 pub reserved_is_next : (past : List Entry) (entry : Entry) (place : Reservation) → broken past entry ≡ None → reserved_by entry ≡ Some place

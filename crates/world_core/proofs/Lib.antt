@@ -1,5 +1,4 @@
 pub mod Walks
-pub mod Basics
 pub mod HistoryFacts
 pub mod WholePackets
 pub mod CardLemmas

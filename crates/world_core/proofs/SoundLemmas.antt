@@ -26,9 +26,9 @@ use Rattle.world_core.specs.declared.events.Event.{Event}
 use Rattle.world_core.specs.declared.events.Event.TheVariants as event
 use Rattle.world_core.specs.declared.refusals.NotAllowed.{NotAllowed}
 use Rattle.world_core.specs.declared.refusals.NotAllowed.TheVariants as refusal
-use Rattle.world_core.proofs.Basics.{In-left, In-cases, In-push_cases, slice_get-In, list_all-In, list_any-In, holds, none_before}
+use Rattle.world_core.specs.MemberLaws.{In-left, In-cases, In-push_cases, slice_get-In, list_all-In, list_any-In, holds, none_before}
 use Rattle.world_core.proofs.HistoryFacts.{packet_at-left, IsLegal-refusal}
-use Rattle.world_core.proofs.CardLemmas.{log_of-In}
+use Rattle.world_core.specs.WorldLaws.{log_of-In}
 use Rattle.world_core.proofs.DeliveryLemmas.{sound_delivered}
 
 -- the durable history of a sound world is legal

@@ -12,7 +12,7 @@ use Rattle.world_core.specs.Members.{In}
 use Rattle.world_core.specs.Packet.{Packet, packet_of, packet_at, packet_length, pieces_of_length, is_wide, pieces_of}
 use Rattle.world_core.specs.Condition.{is_piece_of, are_pieces_of, has_place, has_places, first_reservation, packet_if_whole, packet_whole_at, whole_packet}
 use Rattle.world_core.specs.declared.segments.Sent.{Sent}
-use Rattle.world_core.proofs.Basics.{and_then-some}
+use Rattle.world_core.specs.MemberLaws.{and_then-some}
 
 and_shuffled : (a b c : Bool) → (a && (b && c)) ≡ (b && (a && c))
 and_shuffled true b c = refl

@@ -9,3 +9,6 @@ pub mod Journal
 pub mod Headline
 pub mod Sound
 pub mod Run
+pub mod Settling
+pub mod MemberLaws
+pub mod WorldLaws
