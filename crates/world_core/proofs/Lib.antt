@@ -6,3 +6,4 @@ pub mod DeliveryLemmas
 pub mod SoundLemmas
 pub mod HeadlineLemmas
 pub mod RunLemmas
+pub mod StepLemmas

@@ -10,9 +10,18 @@ use Rattle.ota_core.specs.declared.cards.CardId.{CardId}
 use Rattle.ota_core.specs.declared.entries.Entry.{Entry}
 use Rattle.world_core.specs.Members.{In}
 use Rattle.world_core.specs.Packet.{Packet, packet_of, packet_at, packet_length, pieces_of_length, is_wide, pieces_of}
-use Rattle.world_core.specs.Condition.{is_piece_of, are_pieces_of, has_place, has_places, first_reservation, packet_if_whole, packet_whole_at, whole_packet}
+use Rattle.world_core.specs.Card.{CardState, find_card}
+use Rattle.world_core.specs.Receiving.{may_step}
+use Rattle.world_core.specs.WorldState.{WorldState}
+use Rattle.world_core.specs.Delivery.{IsWhole, DeliversWhole, DeliversNoWhole}
+use Rattle.world_core.specs.Run.{IsRefusalOf}
+use Rattle.world_core.specs.declared.events.Event.{Event}
+use Rattle.world_core.specs.declared.events.Event.TheVariants.{Begin, Seal, Leave, Deliver, Give, Stop, Start, PowerCut}
+use Rattle.world_core.specs.declared.refusals.NotAllowed.{NotAllowed}
+use Rattle.world_core.specs.declared.refusals.NotAllowed.TheVariants.{Memory, NotWhole, BadStep}
+use Rattle.world_core.specs.Condition.{IsAllowed, refused_unless, step_refusal, is_at_place, is_piece_of, are_pieces_of, has_place, has_places, first_reservation, packet_if_whole, packet_whole_at, whole_packet}
 use Rattle.world_core.specs.declared.segments.Sent.{Sent}
-use Rattle.world_core.specs.MemberLaws.{and_then-some}
+use Rattle.world_core.specs.MemberLaws.{and_then-some, list_all-In, list_any-In, list_any-from_In}
 
 and_shuffled : (a b c : Bool) → (a && (b && c)) ≡ (b && (a && c))
 and_shuffled true b c = refl
@@ -150,3 +159,137 @@ whole_of_first history sent card (piece ∷ pieces) = by_message (slice_get sent
         ≡ option_and_then (packet_whole_at history sent card (piece ∷ pieces)) (option_map (λ (message : Sent). message.reservation) o)
     by_message None is = nowhere is
     by_message (Some message) is = by_value message is (packet_whole_at history sent card (piece ∷ pieces) message.reservation) refl
+
+-- ---- in words
+
+-- a test that passes on each element passes on all
+all_from : {X : Type 0} (p : X → Bool) (xs : List X) → ((x : X) → In x xs → p x ≡ true) → list_all p xs ≡ true
+all_from p [] each = refl
+all_from p (x ∷ xs) each = rw (each x (inl refl)) (all_from p xs (λ y i. each y (inr i)))
+
+-- the numbers of a range
+from_range : (a n r : ℕ) → In r (range_with_len a n) → (a ≤ r) × (r < a + n)
+from_range a zero r i = absurd i
+from_range a (suc n) r i = elim i [
+  | inl e ↦ (omega (arith, e), omega (arith, e))
+  | inr later ↦ (let within = from_range (a + 1) n r later in let low = within.0 in let high = within.1 in (omega (arith, low), omega (arith, high)))
+]
+
+piece_says : (card : CardId) (reservation : ℕ) (o : Option Sent) → is_piece_of card reservation o ≡ true
+    → (piece : Sent) × (o ≡ Some piece) × (piece.card ≡ card) × (piece.reservation ≡ reservation)
+piece_says card reservation None h = cc
+piece_says card reservation (Some piece) h =
+    let parts = and_parts (piece.card.0 == card.0) (piece.reservation == reservation) h in
+    (piece, refl, same_card piece.card card parts.0, grind (arith, nat_tests, parts.1))
+  where
+    same_card : (a b : CardId) → (a.0 == b.0) ≡ true → a ≡ b
+    same_card a b h = grind (arith, nat_tests, h)
+
+place_says : (place : ℕ) (o : Option Sent) → is_at_place place o ≡ true → (piece : Sent) × (o ≡ Some piece) × (piece.place ≡ place)
+place_says place None h = cc
+place_says place (Some piece) h = (piece, refl, grind (arith, nat_tests, h))
+
+if_both : (a b : Bool) (found packet : Packet) → (if a && b then Some found else None) ≡ Some packet → (found ≡ packet) × (a ≡ true) × (b ≡ true)
+if_both true true found packet h = (cc, refl, refl)
+if_both true false found packet h = cc
+if_both false b found packet h = cc
+
+-- what a walk gives is what one of its elements gives
+gives_one : {A B : Type 0} (f : A → Option B) (xs : List A) (y : B) → first_some f xs ≡ Some y → (x : A) × In x xs × (f x ≡ Some y)
+gives_one f [] y h = cc
+gives_one {A = A} {B = B} f (x ∷ xs) y h = by_first (f x) refl h (gives_one f xs y)
+  where
+    by_first : (o : Option B) → f x ≡ o → option_or o (first_some f xs) ≡ Some y
+        → (first_some f xs ≡ Some y → (z : A) × In z xs × (f z ≡ Some y)) → (z : A) × In z (x ∷ xs) × (f z ≡ Some y)
+    by_first None is h later = (let found = later h in (found.0, inr found.1, found.2))
+    by_first (Some z) is h later = (x, inl refl, is ∙ h)
+
+-- what pieces make whole is whole in words
+pub whole-says : (w : WorldState) (card : CardId) (pieces : List ℕ) (packet : Packet) → whole_packet w.history w.sent card pieces ≡ Some packet
+    → (reservation : ℕ) × IsWhole w card pieces reservation packet
+whole-says w card pieces packet h =
+    let found = gives_one (packet_whole_at w.history w.sent card pieces) (range_with_len 0 (length w.history)) packet h in
+    let whole = and_then-some (packet_if_whole w.sent card pieces found.0) (packet_at w.history found.0) packet found.2 in
+    let tests = if_both (are_pieces_of w.sent card pieces found.0) (has_places w.sent pieces (pieces_of whole.0)) whole.0 packet whole.2 in (
+      found.0,
+      record {
+        reserved = whole.1 ∙ ap (λ (p : Packet). Some p) tests.0;
+        of_it = λ position i. piece_says card found.0 (slice_get w.sent position) (list_all-In (λ piece. is_piece_of card found.0 (slice_get w.sent piece)) pieces position tests.1 i);
+        places = λ place above below. (let last : has_places w.sent pieces (pieces_of packet) ≡ true = subst (λ (p : Packet). has_places w.sent pieces (pieces_of p) ≡ true) tests.0 tests.2 in
+            let here = list_all-In (has_place w.sent pieces) (range_with_len 1 (pieces_of packet)) place last (In-range 1 (pieces_of packet) place above (omega (arith, below))) in
+            let at = list_any-In (λ piece. is_at_place place (slice_get w.sent piece)) pieces here in
+            let piece = place_says place (slice_get w.sent at.0) at.2 in
+            (at.0, at.1, piece.0, piece.1, piece.2));
+      },
+    )
+
+-- pieces that are whole in words make that packet whole
+pub says-whole : (w : WorldState) (card : CardId) (pieces : List ℕ) (reservation : ℕ) (packet : Packet) → IsWhole w card pieces reservation packet
+    → whole_packet w.history w.sent card pieces ≡ Some packet
+says-whole w card pieces reservation packet whole =
+    whole_of_first w.history w.sent card pieces ∙ by_first pieces refl
+  where
+    first : (position : ℕ) × In position pieces × (piece : Sent) × (slice_get w.sent position ≡ Some piece) × (piece.place ≡ 1)
+    first = whole.places 1 (omega arith) (one_piece (packet_length packet.opened.ciphered (length packet.body)) (is_wide packet))
+
+    are : are_pieces_of w.sent card pieces reservation ≡ true
+    are = all_from (λ piece. is_piece_of card reservation (slice_get w.sent piece)) pieces
+        (λ position i. (let piece = whole.of_it position i in rw (piece.1, piece.2, piece.3) (grind (arith, nat_tests, common_steps))))
+
+    have : has_places w.sent pieces (pieces_of packet) ≡ true
+    have = all_from (has_place w.sent pieces) (range_with_len 1 (pieces_of packet))
+        (λ place i. (let within = from_range 1 (pieces_of packet) place i in
+        let high = within.1 in
+        let at = whole.places place within.0 (omega (arith, high)) in
+        list_any-from_In (λ piece. is_at_place place (slice_get w.sent piece)) pieces at.0 at.1 (rw (at.3, at.4) (grind (arith, nat_tests)))))
+
+    gives : packet_whole_at w.history w.sent card pieces reservation ≡ Some packet
+    gives = rw (whole.reserved, are, have) refl
+
+    by_first : (positions : List ℕ) → pieces ≡ positions
+        → option_and_then (packet_whole_at w.history w.sent card pieces) (first_reservation w.sent positions) ≡ Some packet
+    by_first [] is = absurd (subst (λ (ps : List ℕ). In first.0 ps) is first.1)
+    by_first (position ∷ positions) is =
+        (let piece = whole.of_it position (subst (λ (ps : List ℕ). In position ps) (sym is) (inl refl)) in rw (piece.1, piece.3) gives)
+
+-- a delivery that is allowed is whole, and one that is refused for it isn't
+pub delivers-whole : (w : WorldState) (happening : Event) → IsAllowed w happening → DeliversWhole w happening
+delivers-whole w (Begin batch) h = tt
+delivers-whole w Seal h = tt
+delivers-whole w (Leave reservation place) h = tt
+delivers-whole w (Deliver card pieces step) h = by_card (find_card card w.cards) (whole_packet w.history w.sent card pieces) refl h
+  where
+    by_card : (s : Option CardState) (o : Option Packet) → whole_packet w.history w.sent card pieces ≡ o → step_refusal step s o ≡ None
+        → (reservation : ℕ) × (packet : Packet) × IsWhole w card pieces reservation packet
+    by_card None o is h = cc
+    by_card (Some state) None is h = cc
+    by_card (Some state) (Some packet) is h = (let whole = whole-says w card pieces packet is in (whole.0, packet, whole.1))
+delivers-whole w (Give made) h = tt
+delivers-whole w (Stop kept) h = tt
+delivers-whole w Start h = tt
+delivers-whole w (PowerCut card) h = tt
+
+pub delivers-no_whole : (w : WorldState) (happening : Event) (refused : NotAllowed) → IsRefusalOf w happening refused → refused ≡ NotWhole → DeliversNoWhole w happening
+delivers-no_whole w (Begin batch) refused h is = tt
+delivers-no_whole w Seal refused h is = tt
+delivers-no_whole w (Leave reservation place) refused h is = tt
+delivers-no_whole w (Deliver card pieces step) refused h is = λ reservation packet whole. elim h [
+  | inl named ↦ by_card (find_card card w.cards) (whole_packet w.history w.sent card pieces) (says-whole w card pieces reservation packet whole) (named ∙ ap (λ n. Some n) is)
+  | inr memory ↦ not_memory (sym is ∙ memory.1)
+]
+  where
+    not_memory : NotWhole ≡ Memory → ⊥
+    not_memory e = cc
+
+    by_test : (t : Bool) → refused_unless t BadStep ≡ Some NotWhole → ⊥
+    by_test true e = cc
+    by_test false e = cc
+
+    by_card : {packet : Packet} (s : Option CardState) (o : Option Packet) → o ≡ Some packet → step_refusal step s o ≡ Some NotWhole → ⊥
+    by_card None o is e = cc
+    by_card (Some state) None is e = cc
+    by_card (Some state) (Some packet) is e = by_test (may_step state packet step) e
+delivers-no_whole w (Give made) refused h is = tt
+delivers-no_whole w (Stop kept) refused h is = tt
+delivers-no_whole w Start refused h is = tt
+delivers-no_whole w (PowerCut card) refused h is = tt

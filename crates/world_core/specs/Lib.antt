@@ -10,5 +10,6 @@ pub mod Headline
 pub mod Sound
 pub mod Run
 pub mod Settling
+pub mod Delivery
 pub mod MemberLaws
 pub mod WorldLaws
