@@ -1,5 +1,5 @@
 -- Cards and their logs.
-use Rattle.std.proofs.Common.{◌≡◌, ℕ, ◌+◌, ◌≤◌, ◌<◌, Bool, true, false, ◌==◌, ◌&&◌, nat_le, nat_lt, if◌then◌else◌, ◌⊎◌, inl, inr, Option, Some, None, unwrap_or, List, [], ◌∷◌, ◌++◌, map, reverse, refl, sym, ◌∙◌, ap, subst, arith}
+use Rattle.std.proofs.Common.{◌≡◌, ℕ, ◌+◌, ◌≤◌, ◌<◌, Bool, true, false, not, ◌==◌, ◌&&◌, ◌||◌, nat_le, nat_lt, if◌then◌else◌, ◌⊎◌, inl, inr, Option, Some, None, unwrap_or, List, [], ◌∷◌, ◌++◌, map, reverse, refl, sym, ◌∙◌, ap, subst, arith}
 use Rattle.std.proofs.lemmas.Grind.{common_steps}
 use Rattle.std.proofs.lemmas.Bool.Decides.{nat_tests}
 use Rattle.std.proofs.lemmas.List.{reverse-append}
@@ -10,21 +10,17 @@ use Rattle.ota_core.specs.declared.keysets.KeysetFacts.{KeysetFacts}
 use Rattle.ota_core.specs.HistoryLaws.{is_same_keyset-true, is_same_keyset-refl}
 use Rattle.world_core.specs.Members.{In}
 use Rattle.world_core.specs.Packet.{Packet}
-use Rattle.world_core.specs.Card.{CardState, is_card, find_card, log_of, logged, counter_of, stored_counter, facts_under, line_status, IsRisingPast, IsRising}
-use Rattle.world_core.specs.Receiving.{is_next, is_other_key, is_below_level, status_of, is_taken}
+use Rattle.world_core.specs.Card.{CardState, is_card, find_card, log_of, logged, counter_of, stored_counter, facts_under, base_of, line_status, IsRisingPast, IsRising}
+use Rattle.world_core.specs.Receiving.{is_next, is_other_key, is_below_level, status_with, is_taken, may_make, put_facts, may_make_with, may_step}
+use Rattle.world_core.specs.declared.card_steps.CardStep.{CardStep}
+use Rattle.world_core.specs.declared.card_steps.CardStep.TheVariants.{Answered, Took}
 use Rattle.world_core.specs.Headline.{all_lines}
 use Rattle.world_core.specs.declared.lines.Line.{Line}
-use Rattle.world_core.proofs.Basics.{true_not_false, In-left, In-push_cases, In-push, In-reverse, In-from_reverse, In-flat_map, In-from_flat_map}
+use Rattle.world_core.specs.WorldLaws.{number_of, is_card-true}
+use Rattle.world_core.specs.MemberLaws.{true_not_false, In-left, In-push_cases, In-push, In-reverse, In-from_reverse, In-flat_map, In-from_flat_map}
 
 abbrev pub with_lines : CardState → List Line → CardState
 with_lines state lines = record { facts = state.facts; log = state.log ++ lines }
-
-abbrev pub number_of : CardState → CardId
-number_of state = state.facts.card
-
--- each test of a keyset of a card: no number differs from itself
-pub is_card-true : (card : CardId) (state : CardState) → is_card card state ≡ true → state.facts.card ≡ card
-is_card-true card state h = grind (arith, common_steps, nat_tests, h)
 
 found_first : (card : CardId) (first : CardState) (cards : List CardState) (state : CardState) (t : Bool) → is_card card first ≡ t
     → (find_card card cards ≡ Some state → In state cards × (is_card card state ≡ true))
@@ -103,19 +99,6 @@ all_lines-logged cards card line new h =
           ])
     ]
 
--- a line of a card's log is a line of that card
-abbrev pub StandsIn : List CardState → CardId → Line → Type 0
-StandsIn cards card line = (state : CardState) × In state cards × (state.facts.card ≡ card) × In line state.log
-
-stands_first : (first : CardState) (cards : List CardState) (card : CardId) (line : Line) (t : Bool) → is_card card first ≡ t
-    → (In line (log_of cards card) → StandsIn cards card line) → In line (log_of (first ∷ cards) card) → StandsIn (first ∷ cards) card line
-stands_first first cards card line true is later h = (first, inl refl, is_card-true card first is, rw is at h)
-stands_first first cards card line false is later h = (let found = later (rw is at h) in (found.0, inr found.1, found.2, found.3))
-
-pub log_of-In : (cards : List CardState) (card : CardId) (line : Line) → In line (log_of cards card) → StandsIn cards card line
-log_of-In [] card line h = absurd h
-log_of-In (first ∷ cards) card line h = stands_first first cards card line (is_card card first) refl (log_of-In cards card line) h
-
 -- no line of the keyset has a counter above the stored one
 above_first : (base : ℕ) (newest : Line) (past : List Line) (keyset : Keyset) (line : Line)
     → ((other : Line) → In other past → other.keyset ≡ newest.keyset → other.counter < newest.counter) → line.keyset ≡ keyset
@@ -167,10 +150,25 @@ one_line (newest ∷ past) a b rising i j same equal = elim i [
 pub IsRising-one_line : (log : List Line) (a b : Line) → IsRising log → In a log → In b log → a.keyset ≡ b.keyset → a.counter ≡ b.counter → a ≡ b
 IsRising-one_line log a b rising i j same equal = one_line (reverse log) a b rising (In-reverse a log i) (In-reverse b log j) same equal
 
--- where a card uses the counter up, it is above the stored one, and the status is the line's
-abbrev pub IsTaking : CardState → Packet → Type 0
-IsTaking state packet = (own : KeysetFacts) × (stored_counter own.base packet.keyset state.log < packet.counter)
-    × (status_of state packet ≡ line_status state.facts packet.tar packet.body)
+-- no stored counter is below the base that the lines of the keyset stand above
+stored_from : (base : ℕ) (past : List Line) (keyset : Keyset) → ((line : Line) → In line past → line.keyset ≡ keyset → base < line.counter)
+    → base ≤ unwrap_or (first_some (counter_of keyset) past) base
+stored_from base [] keyset above = omega arith
+stored_from base (newest ∷ past) keyset above = by_keyset (is_same_keyset newest.keyset keyset) refl (stored_from base past keyset (λ line i same. above line (inr i) same))
+  where
+    by_keyset : (t : Bool) → is_same_keyset newest.keyset keyset ≡ t → base ≤ unwrap_or (first_some (counter_of keyset) past) base
+        → base ≤ unwrap_or (first_some (counter_of keyset) (newest ∷ past)) base
+    by_keyset true is older = rw is (let higher : base < newest.counter = above newest (inl refl) (is_same_keyset-true newest.keyset keyset is) in omega (arith, higher))
+    by_keyset false is older = rw is older
+
+pub stored_counter-from : (base : ℕ) (log : List Line) (keyset : Keyset) → ((line : Line) → In line log → line.keyset ≡ keyset → base < line.counter)
+    → base ≤ stored_counter base keyset log
+stored_counter-from base log keyset above = stored_from base (reverse log) keyset (λ line i same. above line (In-from_reverse line log i) same)
+
+-- a status with which a card uses the counter up: the counter is above the stored one, and the status is the line's
+abbrev pub IsTaking : CardState → Packet → ℕ → Type 0
+IsTaking state packet status = (stored_counter (base_of state.facts packet.keyset) packet.keyset state.log < packet.counter)
+    × (status ≡ line_status state.facts packet.tar packet.body)
 
 taken_by : (other below spent gap : Bool) (counter stored status : ℕ)
     → is_taken (if other then 0x01 else (if below then 0x0A else (if spent then 0x04 else (if nat_le counter stored then 0x02 else (if gap then 0x03 else status))))) ≡ true
@@ -187,13 +185,47 @@ taken_by false false false gap counter stored status h = by_counter (nat_le coun
     by_counter false is true h = cc
     by_counter false is false h = (grind (arith, nat_tests, is), refl)
 
-pub taking : (state : CardState) (packet : Packet) → is_taken (status_of state packet) ≡ true → IsTaking state packet
-taking state packet h = by_keyset (facts_under packet.keyset.kvn state.facts.keysets) refl h
+taking_with : (state : CardState) (packet : Packet) (own : KeysetFacts) → own.base ≡ base_of state.facts packet.keyset
+    → is_taken (status_with state packet own) ≡ true → IsTaking state packet (status_with state packet own)
+taking_with state packet own base h =
+    let stored = stored_counter own.base packet.keyset state.log in
+    let parts = taken_by (is_other_key own packet.opened) (is_below_level own packet.opened) (stored == 0xFF_FFFF_FFFF)
+    (is_next packet.opened.mode && nat_lt (stored + 1) packet.counter) packet.counter stored (line_status state.facts packet.tar packet.body) h in
+    (subst (λ (n : ℕ). stored_counter n packet.keyset state.log < packet.counter) base parts.0, parts.1)
+
+-- a status with which the card may make a step, and under which it uses the counter up only as it ought to
+pub record MaySay (state : CardState) (packet : Packet) (made : CardStep) : Type 0 where
+  pub status : ℕ
+  pub may : may_make status made ≡ true
+  pub taking : is_taken status ≡ true → IsTaking state packet status
+
+-- where the card uses the counter up
+pub taking : (state : CardState) (packet : Packet) (executed took : ℕ) (finished : Bool) (answer : List ℕ) (answered : Bool)
+    → may_step state packet (Took executed finished took answer answered) ≡ true → MaySay state packet (Took executed finished took answer answered)
+taking state packet executed took finished answer answered h = by_keyset (facts_under packet.keyset.kvn state.facts.keysets) refl h
   where
-    by_keyset : (o : Option KeysetFacts) → facts_under packet.keyset.kvn state.facts.keysets ≡ o → is_taken (status_of state packet) ≡ true → IsTaking state packet
-    by_keyset None is h = (let wrong : is_taken 0x06 ≡ true = rw is at h in cc)
-    by_keyset (Some own) is h =
-        (let stored = stored_counter own.base packet.keyset state.log in
-        let parts = taken_by (is_other_key own packet.opened) (is_below_level own packet.opened) (stored == 0xFF_FFFF_FFFF)
-        (is_next packet.opened.mode && nat_lt (stored + 1) packet.counter) packet.counter stored (line_status state.facts packet.tar packet.body) (rw is at h) in
-        (own, parts.0, rw is parts.1))
+    by_keyset : (o : Option KeysetFacts) → facts_under packet.keyset.kvn state.facts.keysets ≡ o
+        → may_make_with state packet (Took executed finished took answer answered) o ≡ true → MaySay state packet (Took executed finished took answer answered)
+    by_keyset None is h = record {
+      status = status_with state packet (put_facts packet.opened);
+      may = h;
+      taking = taking_with state packet (put_facts packet.opened) (rw is refl);
+    }
+    by_keyset (Some own) is h = record { status = status_with state packet own; may = h; taking = taking_with state packet own (rw is refl) }
+
+-- where it answers and uses no counter up
+pub answering : (state : CardState) (packet : Packet) (answered : ℕ) → may_step state packet (Answered answered) ≡ true → is_taken answered ≡ false
+answering state packet answered h = by_keyset (facts_under packet.keyset.kvn state.facts.keysets) h
+  where
+    by_status : (status : ℕ) → ((answered == status) && not (is_taken status)) ≡ true → is_taken answered ≡ false
+    by_status status may = grind (arith, common_steps, nat_tests, may)
+
+    by_either : (a b : Bool) → (a || b) ≡ true → (a ≡ true → is_taken answered ≡ false) → (b ≡ true → is_taken answered ≡ false) → is_taken answered ≡ false
+    by_either true b either left right = left refl
+    by_either false b either left right = right either
+
+    by_keyset : (o : Option KeysetFacts) → may_make_with state packet (Answered answered) o ≡ true → is_taken answered ≡ false
+    by_keyset None may =
+        by_either ((answered == 0x06) || (answered == 0x01) || (answered == 0x0A)) (may_make (status_with state packet (put_facts packet.opened)) (Answered answered)) may
+        (λ unissued. grind (arith, common_steps, nat_tests, unissued)) (λ h. by_status (status_with state packet (put_facts packet.opened)) h)
+    by_keyset (Some own) may = by_status (status_with state packet own) may

@@ -16,16 +16,18 @@ use Rattle.ota_core.specs.declared.entries.Illegal.TheVariants.{Exhausted, NotNe
 use Rattle.ota_core.specs.declared.entries.Entry.{Entry}
 use Rattle.ota_core.specs.declared.entries.Entry.TheVariants.{Open, Reserve, Done, Refused, Close}
 use Rattle.ota_core.specs.HistoryLaws.{both_hold, in_order, is_same_keyset-true, is_same_keyset-refl, is_same_job-true, is_same_place-true, reserves_next, IsLegal-prefix}
+use Rattle.ota_core.proofs.RuleLaws.{reserved_below_next}
 use Rattle.world_core.specs.Members.{In}
-use Rattle.world_core.specs.Packet.{reserved_at}
+use Rattle.world_core.specs.Packet.{place_at}
 use Rattle.world_core.specs.Card.{CardState, IsRisingPast, IsCardState}
 use Rattle.world_core.specs.WorldState.{WorldState, issued}
 use Rattle.world_core.specs.Headline.{OneCounter, all_lines, place_of, is_reserve_for, is_run_of, AtMostOnce}
 use Rattle.world_core.specs.Sound.{Differ, IsSound}
 use Rattle.world_core.specs.declared.lines.Line.{Line}
-use Rattle.world_core.proofs.Basics.{In-left, In-right, In-reverse, In-from_reverse, In-map, In-from_flat_map, list_any-In, list_any-from_In, and_then-some}
-use Rattle.world_core.proofs.HistoryFacts.{packet_at-reserved, reserves, reserved_is_next, reserved_below_next}
-use Rattle.world_core.proofs.CardLemmas.{number_of, log_of-In, IsRising-one_line}
+use Rattle.world_core.specs.MemberLaws.{In-left, In-right, In-reverse, In-from_reverse, In-map, In-from_flat_map, list_any-In, list_any-from_In, and_then-some}
+use Rattle.world_core.proofs.HistoryFacts.{packet_at-place, reserved_is_next}
+use Rattle.world_core.proofs.CardLemmas.{IsRising-one_line}
+use Rattle.world_core.specs.WorldLaws.{number_of, log_of-In, reserves}
 use Rattle.world_core.proofs.SoundLemmas.{legal_history}
 use Rattle.world_core.proofs.Walks.{list_any_reverse}
 
@@ -55,7 +57,7 @@ legal_at history j entry legal there =
 
 -- no counter is reserved twice
 no_second : (history : List Entry) (i j : ℕ) (place : Reservation) → IsLegal history
-    → reserved_at history i ≡ Some place → reserved_at history j ≡ Some place → i < j → ⊥
+    → place_at history i ≡ Some place → place_at history j ≡ Some place → i < j → ⊥
 no_second history i j place legal first second below =
     let a = and_then-some reserved_by (slice_get history i) place first in
     let b = and_then-some reserved_by (slice_get history j) place second in
@@ -80,8 +82,8 @@ pub one_counter : (w : WorldState) → IsSound w → OneCounter w
 one_counter w sound a b i j same =
     let p = sound.sent a i in
     let place : Reservation = record { keyset = p.0.keyset; counter = p.0.counter } in
-    let first : reserved_at w.history a.reservation ≡ Some place = packet_at-reserved w.history a.reservation p.0 p.1 in
-    let second : reserved_at w.history b.reservation ≡ Some place = sym same ∙ first in
+    let first : place_at w.history a.reservation ≡ Some place = packet_at-place w.history a.reservation p.0 p.1 in
+    let second : place_at w.history b.reservation ≡ Some place = sym same ∙ first in
     one_place a.reservation b.reservation
     (no_second w.history a.reservation b.reservation place (legal_history w sound) first second)
     (no_second w.history b.reservation a.reservation place (legal_history w sound) second first)
@@ -299,6 +301,7 @@ issued_sound cards differ = record {
   cards = λ state i. (let found = issued_state cards state i in subst (λ (s : CardState). IsCardState s) (sym found.1) (new_is_card found.0));
   reserved = λ line i. absurd (no_lines cards line i);
   answers = λ made i. absurd i;
+  own = λ made i. absurd i;
   given = λ position i. absurd i;
   reports = λ entry i. absurd i;
 }

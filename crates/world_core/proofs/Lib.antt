@@ -1,8 +1,9 @@
 pub mod Walks
-pub mod Basics
 pub mod HistoryFacts
+pub mod WholePackets
 pub mod CardLemmas
 pub mod DeliveryLemmas
 pub mod SoundLemmas
 pub mod HeadlineLemmas
 pub mod RunLemmas
+pub mod StepLemmas

@@ -1,5 +1,5 @@
 -- Each event keeps a world sound.
-use Rattle.std.proofs.Common.{◌≡◌, ◌≢◌, ℕ, ◌<◌, Bool, true, false, ◌==◌, ◌&&◌, nat_lt, ◌⊎◌, inl, inr, Option, Some, None, Result, Ok, Err, is_none, unwrap_or, List, [], ◌++◌, length, reverse, slice_get, refl, sym, ◌∙◌, subst, arith, append-nil}
+use Rattle.std.proofs.Common.{◌≡◌, ◌≢◌, ℕ, ◌<◌, Bool, true, false, ◌==◌, ◌&&◌, nat_lt, nat_le, ◌⊎◌, inl, inr, Option, Some, None, Result, Ok, Err, is_none, unwrap_or, List, [], ◌++◌, length, reverse, slice_get, refl, sym, ◌∙◌, subst, arith, append-nil}
 use Rattle.std.specs.Option.{option_map, option_to_list}
 use Rattle.std.specs.List.{list_all}
 use Rattle.std.specs.Str.{bytes_eq}
@@ -12,10 +12,10 @@ use Rattle.ota_core.specs.declared.entries.Entry.{Entry}
 use Rattle.ota_core.specs.declared.entries.Entry.TheVariants.{Open, Reserve, Done, Refused, Close}
 use Rattle.ota_core.specs.HistoryLaws.{both_hold, IsLegal-prefix, IsLegal-batch, is_same_keyset-true}
 use Rattle.world_core.specs.Members.{In}
-use Rattle.world_core.specs.Packet.{Packet, packet_at}
+use Rattle.world_core.specs.Packet.{Packet, packet_at, pieces_of}
 use Rattle.world_core.specs.Card.{log_of}
 use Rattle.world_core.specs.WorldState.{WorldState, written}
-use Rattle.world_core.specs.Condition.{refused_unless, is_answer_with, passes, is_given, is_answered, begin_refusal, give_refusal, refusal_of, may_want_memory, IsAllowed}
+use Rattle.world_core.specs.Condition.{refused_unless, is_answer_with, passes, is_given, is_answered, begin_refusal, place_refusal, leave_refusal, give_refusal, refusal_of, may_want_memory, IsAllowed}
 use Rattle.world_core.specs.Effect.{begun, piece_of, left, gave, stopped, started, world_step}
 use Rattle.world_core.specs.Run.{Answers}
 use Rattle.world_core.specs.Headline.{IsReserved, HasLine, IsFinished, IsTrueReport}
@@ -26,9 +26,9 @@ use Rattle.world_core.specs.declared.events.Event.{Event}
 use Rattle.world_core.specs.declared.events.Event.TheVariants as event
 use Rattle.world_core.specs.declared.refusals.NotAllowed.{NotAllowed}
 use Rattle.world_core.specs.declared.refusals.NotAllowed.TheVariants as refusal
-use Rattle.world_core.proofs.Basics.{In-left, In-cases, In-push_cases, slice_get-In, list_all-In, list_any-In, holds, none_before}
+use Rattle.world_core.specs.MemberLaws.{In-left, In-cases, In-push_cases, slice_get-In, list_all-In, list_any-In, holds, none_before}
 use Rattle.world_core.proofs.HistoryFacts.{packet_at-left, IsLegal-refusal}
-use Rattle.world_core.proofs.CardLemmas.{log_of-In}
+use Rattle.world_core.specs.WorldLaws.{log_of-In}
 use Rattle.world_core.proofs.DeliveryLemmas.{sound_delivered}
 
 -- the durable history of a sound world is legal
@@ -37,7 +37,7 @@ legal_history w sound = IsLegal-prefix w.history (unwrap_or w.batch []) sound.le
 
 -- each piece is still of a reservation when the history grows
 reserved_left : (history rest : List Entry) (piece : Sent) → IsReserved history piece → IsReserved (history ++ rest) piece
-reserved_left history rest piece h = (h.0, packet_at-left history rest piece.reservation h.0 h.1, h.2)
+reserved_left history rest piece h = (h.0, packet_at-left history rest piece.reservation h.0 h.1, h.2, h.3, h.4)
 
 -- the batch becomes durable
 kept_whole : (w : WorldState) (up : Bool) → IsSound w → IsSound (record w { history = written w; batch = None; up = up })
@@ -49,6 +49,7 @@ kept_whole w up sound = record {
   reserved = λ line i. (let found = sound.reserved line i in
       (found.0, found.1, found.2, found.3, In-left (Reserve found.0 found.1 line.keyset line.counter found.2 line.tar found.3 line.body) w.history (unwrap_or w.batch []) found.4));
   answers = sound.answers;
+  own = sound.own;
   given = sound.given;
   reports = λ entry i. sound.reports entry (rw append-nil at i);
 }
@@ -62,6 +63,7 @@ lost w up sound = record {
   cards = sound.cards;
   reserved = sound.reserved;
   answers = sound.answers;
+  own = sound.own;
   given = sound.given;
   reports = λ entry i. sound.reports entry (In-left entry w.history (unwrap_or w.batch []) (rw append-nil at i));
 }
@@ -79,6 +81,7 @@ sound_started w sound = record {
   cards = sound.cards;
   reserved = sound.reserved;
   answers = sound.answers;
+  own = sound.own;
   given = sound.given;
   reports = sound.reports;
 }
@@ -148,6 +151,7 @@ sound_begun w batch sound allowed =
       cards = sound.cards;
       reserved = sound.reserved;
       answers = sound.answers;
+      own = sound.own;
       given = sound.given;
       reports = λ entry i. elim (In-cases entry w.history batch i) [
         | inl old ↦ sound.reports entry (In-left entry w.history (unwrap_or w.batch []) old)
@@ -158,28 +162,36 @@ sound_begun w batch sound allowed =
     }
 
 -- a piece leaves
-sound_left : (w : WorldState) (reservation place : ℕ) → IsSound w → IsSound (left w reservation place)
-sound_left w reservation place sound = record {
+sound_left : (w : WorldState) (reservation place : ℕ) → IsSound w → leave_refusal w reservation place ≡ None → IsSound (left w reservation place)
+sound_left w reservation place sound allowed = record {
   legal = sound.legal;
   sent = λ piece i. elim (In-cases piece w.sent (option_to_list (option_map (piece_of reservation place) (packet_at w.history reservation))) i) [
     | inl old ↦ sound.sent piece old
-    | inr new ↦ leaving (packet_at w.history reservation) refl piece new
+    | inr new ↦ leaving (packet_at w.history reservation) refl there.1 piece new
   ];
   differ = sound.differ;
   cards = sound.cards;
   reserved = sound.reserved;
   answers = sound.answers;
+  own = sound.own;
   given = sound.given;
   reports = sound.reports;
 }
   where
-    leaving : (o : Option Packet) → packet_at w.history reservation ≡ o → (piece : Sent) → In piece (option_to_list (option_map (piece_of reservation place) o))
-        → IsReserved w.history piece
-    leaving None is piece h = absurd h
-    leaving (Some packet) is piece h = elim h [
-      | inl e ↦ rw e (packet, is, refl)
-      | inr none ↦ absurd none
-    ]
+    there : (refused_unless (is_none w.batch) refusal.BatchOpen ≡ None) × (place_refusal place (packet_at w.history reservation) ≡ None)
+    there = both_hold (refused_unless (is_none w.batch) refusal.BatchOpen) (place_refusal place (packet_at w.history reservation))
+        (both_hold (refused_unless w.up refusal.Down) _ allowed).1
+
+    leaving : (o : Option Packet) → packet_at w.history reservation ≡ o → place_refusal place o ≡ None → (piece : Sent)
+        → In piece (option_to_list (option_map (piece_of reservation place) o)) → IsReserved w.history piece
+    leaving None is within piece h = absurd h
+    leaving (Some packet) is within piece h =
+        (let places : (nat_le 1 place && nat_le place (pieces_of packet)) ≡ true = holds (nat_le 1 place && nat_le place (pieces_of packet)) refusal.BadPlace within in
+        let parts = and_parts (nat_le 1 place) (nat_le place (pieces_of packet)) places in
+        elim h [
+          | inl e ↦ rw e (packet, is, refl, grind (arith, nat_tests, parts.0), grind (arith, nat_tests, parts.1))
+          | inr none ↦ absurd none
+        ])
 
 -- an answer reaches the gateway
 sound_gave : (w : WorldState) (position : ℕ) → IsSound w → give_refusal w position ≡ None → IsSound (gave w position)
@@ -194,6 +206,7 @@ sound_gave w position sound allowed =
       cards = sound.cards;
       reserved = sound.reserved;
       answers = sound.answers;
+      own = sound.own;
       reports = sound.reports;
       given = λ other i. elim (In-push_cases other w.given position i) [
         | inl old ↦ sound.given other old
@@ -203,10 +216,10 @@ sound_gave w position sound allowed =
 
 -- each event that is allowed keeps a world sound
 pub IsSound-step : (w : WorldState) (happening : Event) → IsSound w → IsAllowed w happening → IsSound (world_step w happening)
-IsSound-step w (event.Begin batch) sound allowed = sound_begun w batch.items sound allowed
+IsSound-step w (event.Begin batch) sound allowed = sound_begun w batch sound allowed
 IsSound-step w event.Seal sound allowed = kept_whole w w.up sound
-IsSound-step w (event.Leave reservation place) sound allowed = sound_left w reservation place sound
-IsSound-step w (event.Deliver card pieces made) sound allowed = sound_delivered w card pieces.items made sound allowed
+IsSound-step w (event.Leave reservation place) sound allowed = sound_left w reservation place sound allowed
+IsSound-step w (event.Deliver card pieces made) sound allowed = sound_delivered w card pieces made sound allowed
 IsSound-step w (event.Give position) sound allowed = sound_gave w position sound allowed
 IsSound-step w (event.Stop kept) sound allowed = sound_stopped w kept sound
 IsSound-step w event.Start sound allowed = sound_started w sound

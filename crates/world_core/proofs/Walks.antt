@@ -11,8 +11,6 @@ use Rattle.world_core.specs.declared.refusals.NotAllowed.TheVariants.{Broken}
 use Rattle.std.proofs.lemmas.List.{reverse-append}
 use Rattle.std.proofs.lemmas.List.Folds.{list_any-append}
 use Rattle.world_core.specs.Journal.{JournalState}
-use Rattle.world_core.specs.Condition.{is_at_place, has_places}
-use Rattle.world_core.specs.declared.segments.Sent.{Sent}
 use Rattle.world_core.specs.Card.{CardState, is_card, logged}
 use Rattle.ota_core.specs.declared.cards.CardId.{CardId}
 use Rattle.world_core.specs.declared.lines.Line.{Line}
@@ -52,12 +50,6 @@ pub list_any_reverse : {X : Type 0} (p : X → Bool) (xs : List X) → list_any 
 list_any_reverse p [] = refl
 list_any_reverse p (x ∷ xs) =
     rw (reverse-append (x ∷ []) xs, list_any-append p (reverse xs) (x ∷ []), list_any_reverse p xs) (or_turned (list_any p xs) (p x))
-
--- the places up to a number: that one, and those up to the number before
-pub places_step : (sent : List Sent) (pieces : List ℕ) (n : ℕ) → 0 < n
-    → has_places sent pieces n ≡ (list_any (λ piece. is_at_place n (slice_get sent piece)) pieces && has_places sent pieces (n - 1))
-places_step sent pieces zero above = absurd (omega arith)
-places_step sent pieces (suc n) above = rw sub-one refl
 
 -- what the first of two answers gives is kept
 option_map-first : {A B : Type 0} (f : A → B) (o p : Option A) (y : B) → option_map f o ≡ Some y → option_map f (option_or o p) ≡ Some y

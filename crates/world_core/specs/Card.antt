@@ -43,6 +43,10 @@ stored_counter base keyset log = unwrap_or (first_some (counter_of keyset) (reve
 abbrev pub facts_under : ℕ → List (ℕ × KeysetFacts) → Option KeysetFacts
 facts_under kvn keysets = option_map (λ keyset. keyset.1) (find (λ keyset. keyset.0 == kvn) keysets)
 
+-- the counter that a card has stored before the first packet: the base of the issued keyset, and 0 of one that was put
+abbrev pub base_of : CardFacts → Keyset → ℕ
+base_of facts keyset = unwrap_or (option_map (λ own. own.base) (facts_under keyset.kvn facts.keysets)) 0
+
 -- the status of a line: 09 where no application of the card has its reference, 07 where the body is longer than the card's
 -- buffer, else 00 (ETSI TS 102 225, 5.2.2)
 abbrev pub line_status : CardFacts → List ℕ → List ℕ → ℕ
@@ -57,10 +61,11 @@ IsRisingPast (line ∷ older) = ((other : Line) → In other older → other.key
 abbrev pub IsRising : List Line → Type 0
 IsRising log = IsRisingPast (reverse log)
 
--- what a line of a card says: its status is that of its reference and its body; where that isn't 00, nothing ran; and only
--- a script that came to its end has an answer
+-- what a line of a card says: it is of a keyset of the card and above its base; its status is that of its reference and
+-- its body; where that isn't 00, nothing ran; and only a script that came to its end has an answer
 pub record IsLine (facts : CardFacts) (line : Line) : Type 0 where
   pub card : line.keyset.card ≡ facts.card
+  pub above : base_of facts line.keyset < line.counter
   pub status : line.status ≡ line_status facts line.tar line.body
   pub unrun : line.status ≢ 0x00 → (line.executed ≡ 0) × (line.finished ≡ true) × (line.answer ≡ [])
   pub unfinished : line.finished ≡ false → line.answer ≡ []

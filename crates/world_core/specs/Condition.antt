@@ -1,16 +1,16 @@
 -- When an event can happen: the first of its conditions that is broken.
 use Rattle.std.specs.Prelude.{◌≡◌, ℕ, zero, suc, nat_le, nat_lt, Bool, true, false, ◌==◌, ◌&&◌, if◌then◌else◌, not, Option, Some, None, is_some, is_none, List, [], ◌∷◌, length, reverse, slice_get}
 use Rattle.std.specs.Option.{option_or, option_map, option_and_then}
-use Rattle.std.specs.List.{list_any, list_all}
+use Rattle.std.specs.List.{list_any, list_all, range_with_len}
 use Rattle.std.specs.Str.{bytes_eq}
 use Rattle.ota_core.specs.Keyset.{Keyset, is_same_keyset}
-use Rattle.ota_core.specs.History.{broken_batch}
+use Rattle.ota_core.specs.History.{first_some, broken_batch}
 use Rattle.ota_core.specs.declared.cards.CardId.{CardId}
 use Rattle.ota_core.specs.declared.entries.Entry.{Entry}
 use Rattle.ota_core.specs.declared.entries.Entry.TheVariants as entry
 use Rattle.world_core.specs.Packet.{Packet, packet_at, pieces_of}
 use Rattle.world_core.specs.Card.{CardState, find_card}
-use Rattle.world_core.specs.Receiving.{status_of, may_make, is_secured}
+use Rattle.world_core.specs.Receiving.{may_step, is_secured}
 use Rattle.world_core.specs.WorldState.{WorldState}
 use Rattle.world_core.specs.declared.segments.Sent.{Sent}
 use Rattle.world_core.specs.declared.answers.Made.{Made}
@@ -77,31 +77,42 @@ abbrev pub is_at_place : ℕ → Option Sent → Bool
 is_at_place place None = false
 is_at_place place (Some piece) = piece.place == place
 
--- each place from 1 to the last has its piece
-abbrev pub has_places : List Sent → List ℕ → ℕ → Bool
-has_places sent pieces zero = true
-has_places sent pieces (suc place) = list_any (λ piece. is_at_place (suc place) (slice_get sent piece)) pieces && has_places sent pieces place
-
 -- the reservation of the first piece
 abbrev pub first_reservation : List Sent → List ℕ → Option ℕ
 first_reservation sent [] = None
 first_reservation sent (piece ∷ pieces) = option_map (λ message. message.reservation) (slice_get sent piece)
 
+-- each piece is one that left for the card, of the reservation
+abbrev pub are_pieces_of : List Sent → CardId → List ℕ → ℕ → Bool
+are_pieces_of sent card pieces reservation = list_all (λ piece. is_piece_of card reservation (slice_get sent piece)) pieces
+
+-- one of the pieces has the place
+abbrev pub has_place : List Sent → List ℕ → ℕ → Bool
+has_place sent pieces place = list_any (λ piece. is_at_place place (slice_get sent piece)) pieces
+
+-- each place from 1 to the last is that of one of the pieces
+abbrev pub has_places : List Sent → List ℕ → ℕ → Bool
+has_places sent pieces last = list_all (has_place sent pieces) (range_with_len 1 last)
+
+-- the packet of a reservation, where all pieces are of it and each of its places is among them
 abbrev pub packet_if_whole : List Sent → CardId → List ℕ → ℕ → Packet → Option Packet
 packet_if_whole sent card pieces reservation packet =
-    if list_all (λ piece. is_piece_of card reservation (slice_get sent piece)) pieces && has_places sent pieces (pieces_of packet)
-    then Some packet else None
+    if are_pieces_of sent card pieces reservation && has_places sent pieces (pieces_of packet) then Some packet else None
 
--- the packet that the pieces make whole: each is a piece that left for the card, all are of one reservation, and each
--- place of its packet is among them
+-- the same of the reservation at a position of the history
+abbrev pub packet_whole_at : List Entry → List Sent → CardId → List ℕ → ℕ → Option Packet
+packet_whole_at history sent card pieces reservation =
+    option_and_then (packet_if_whole sent card pieces reservation) (packet_at history reservation)
+
+-- the packet that the pieces make whole: there is a reservation in the history of which all pieces are, and each place of
+-- its packet is that of one of them
 abbrev pub whole_packet : List Entry → List Sent → CardId → List ℕ → Option Packet
-whole_packet history sent card pieces =
-    option_and_then (λ reservation. option_and_then (packet_if_whole sent card pieces reservation) (packet_at history reservation)) (first_reservation sent pieces)
+whole_packet history sent card pieces = first_some (packet_whole_at history sent card pieces) (range_with_len 0 (length history))
 
 abbrev pub step_refusal : CardStep → Option CardState → Option Packet → Option NotAllowed
 step_refusal step None packet = Some NoCard
 step_refusal step (Some card) None = Some NotWhole
-step_refusal step (Some card) (Some packet) = refused_unless (may_make (status_of card packet) step) BadStep
+step_refusal step (Some card) (Some packet) = refused_unless (may_step card packet step) BadStep
 
 -- Deliver: the card is there, the pieces make a packet whole, and the card may make the step
 abbrev pub deliver_refusal : WorldState → CardId → List ℕ → CardStep → Option NotAllowed
@@ -125,10 +136,10 @@ cut_refusal w card = refused_unless (is_some (find_card card w.cards)) NoCard
 
 -- the first condition of the event that is broken
 abbrev pub refusal_of : WorldState → Event → Option NotAllowed
-refusal_of w (Begin batch) = begin_refusal w batch.items
+refusal_of w (Begin batch) = begin_refusal w batch
 refusal_of w Seal = seal_refusal w
 refusal_of w (Leave reservation place) = leave_refusal w reservation place
-refusal_of w (Deliver card pieces step) = deliver_refusal w card pieces.items step
+refusal_of w (Deliver card pieces step) = deliver_refusal w card pieces step
 refusal_of w (Give position) = give_refusal w position
 refusal_of w (Stop kept) = stop_refusal w
 refusal_of w Start = start_refusal w
@@ -147,7 +158,7 @@ step_wants_memory (Took executed finished status answer answered) = true
 
 -- the event may want memory: it makes a list of the world longer
 abbrev pub may_want_memory : Event → Bool
-may_want_memory (Begin batch) = nat_lt 0 (length batch.items)
+may_want_memory (Begin batch) = nat_lt 0 (length batch)
 may_want_memory (Leave reservation place) = true
 may_want_memory (Deliver card pieces step) = step_wants_memory step
 may_want_memory (Give position) = true

@@ -64,10 +64,10 @@ started w = record w { up = true }
 
 -- the world after an event that is allowed
 abbrev pub world_step : WorldState → Event → WorldState
-world_step w (Begin batch) = begun w batch.items
+world_step w (Begin batch) = begun w batch
 world_step w Seal = sealed w
 world_step w (Leave reservation place) = left w reservation place
-world_step w (Deliver card pieces step) = delivered w card pieces.items step
+world_step w (Deliver card pieces step) = delivered w card pieces step
 world_step w (Give position) = gave w position
 world_step w (Stop kept) = stopped w kept
 world_step w Start = started w

@@ -8,16 +8,17 @@ use Rattle.ota_core.specs.declared.jobs.JobId.{JobId}
 use Rattle.ota_core.specs.declared.entries.Entry.{Entry}
 use Rattle.ota_core.specs.declared.entries.Entry.TheVariants.{Reserve, Done, Refused}
 use Rattle.world_core.specs.Members.{In}
-use Rattle.world_core.specs.Packet.{Packet, packet_at, reserved_at}
+use Rattle.world_core.specs.Packet.{Packet, packet_at, place_at, pieces_of}
 use Rattle.world_core.specs.Card.{CardState, log_of, IsCardState}
 use Rattle.world_core.specs.WorldState.{WorldState, written}
 use Rattle.world_core.specs.declared.segments.Sent.{Sent}
 use Rattle.world_core.specs.declared.lines.Line.{Line}
 use Rattle.world_core.specs.declared.answers.Made.{Made}
 
--- a piece that left is of a reservation for its card
+-- a piece that left is of a reservation for its card, and its place is one of the packet's
 abbrev pub IsReserved : List Entry → Sent → Type 0
 IsReserved history piece = (packet : Packet) × (packet_at history piece.reservation ≡ Some packet) × (piece.card ≡ packet.keyset.card)
+    × (1 ≤ piece.place) × (piece.place ≤ pieces_of packet)
 
 abbrev pub SentIsReserved : WorldState → Type 0
 SentIsReserved w = (piece : Sent) → In piece w.sent → IsReserved w.history piece
@@ -25,7 +26,7 @@ SentIsReserved w = (piece : Sent) → In piece w.sent → IsReserved w.history p
 -- pieces that left with one keyset and counter are of one reservation
 abbrev pub OneCounter : WorldState → Type 0
 OneCounter w =
-    (a b : Sent) → In a w.sent → In b w.sent → reserved_at w.history a.reservation ≡ reserved_at w.history b.reservation
+    (a b : Sent) → In a w.sent → In b w.sent → place_at w.history a.reservation ≡ place_at w.history b.reservation
     → a.reservation ≡ b.reservation
 
 -- the lines of all cards
@@ -90,6 +91,10 @@ IsTrueAnswer cards made = ((made.status ≡ 0x00) ⊎ (made.status ≡ 0x07) ⊎
 
 abbrev pub AnswersAreTrue : WorldState → Type 0
 AnswersAreTrue w = (made : Made) → In made w.made → IsTrueAnswer w.cards made
+
+-- an answer is under a keyset of the card that made it
+abbrev pub AnswersAreOwn : WorldState → Type 0
+AnswersAreOwn w = (made : Made) → In made w.made → made.keyset.card ≡ made.card
 
 -- what reached the gateway was made
 abbrev pub GivenWasMade : WorldState → Type 0

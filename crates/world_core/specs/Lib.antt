@@ -9,3 +9,7 @@ pub mod Journal
 pub mod Headline
 pub mod Sound
 pub mod Run
+pub mod Settling
+pub mod Delivery
+pub mod MemberLaws
+pub mod WorldLaws

@@ -2,8 +2,8 @@
 use Rattle.std.specs.Prelude.{ℕ, ◌+◌, ◌-◌, ◌*◌, ◌/◌, nat_le, nat_lt, Bool, if◌then◌else◌, Option, Some, None, List, length, slice_get}
 use Rattle.std.specs.Option.{option_map, option_and_then}
 use Rattle.ota_core.specs.Keyset.{Keyset}
-use Rattle.ota_core.specs.Entry.{Reservation, facts_in, reserved_by}
-use Rattle.ota_core.specs.History.{first_some}
+use Rattle.ota_core.specs.Entry.{Reservation, reserved_by}
+use Rattle.ota_core.specs.Questions.{opened_facts}
 use Rattle.ota_core.specs.declared.keysets.KeysetFacts.{KeysetFacts}
 use Rattle.ota_core.specs.declared.entries.Entry.{Entry}
 use Rattle.ota_core.specs.declared.entries.Entry.TheVariants.{Reserve}
@@ -19,7 +19,7 @@ pub record Packet : Type 0 where
 -- the packet of an entry of the history, where that is a reservation
 abbrev pub packet_of : List Entry → Entry → Option Packet
 packet_of history (Reserve by moment keyset counter job tar name body) =
-    option_map (λ facts. record { keyset = keyset; counter = counter; tar = tar; body = body; opened = facts }) (first_some (facts_in keyset) history)
+    option_map (λ facts. record { keyset = keyset; counter = counter; tar = tar; body = body; opened = facts }) (opened_facts keyset history)
 packet_of history _ = None
 
 -- the packet of the reservation at a position of the history
@@ -27,8 +27,8 @@ abbrev pub packet_at : List Entry → ℕ → Option Packet
 packet_at history position = option_and_then (packet_of history) (slice_get history position)
 
 -- the counter that is reserved at a position of the history
-abbrev pub reserved_at : List Entry → ℕ → Option Reservation
-reserved_at history position = option_and_then reserved_by (slice_get history position)
+abbrev pub place_at : List Entry → ℕ → Option Reservation
+place_at history position = option_and_then reserved_by (slice_get history position)
 
 -- the octets of a command packet with a body of this length. A ciphered part is filled up to whole blocks of 16 octets
 -- (ETSI TS 102 225, 5.1)

@@ -37,13 +37,9 @@ status_under facts own stored packet =
     (if is_next packet.opened.mode && nat_lt (stored + 1) packet.counter then 0x03 else
     line_status facts packet.tar packet.body))))
 
-abbrev pub status_by : CardState → Packet → Option KeysetFacts → ℕ
-status_by card packet None = 0x06
-status_by card packet (Some own) = status_under card.facts own (stored_counter own.base packet.keyset card.log) packet
-
--- the status that a card gives a packet; 06 where it lacks the keyset
-abbrev pub status_of : CardState → Packet → ℕ
-status_of card packet = status_by card packet (facts_under packet.keyset.kvn card.facts.keysets)
+-- the status that a card with these facts of the packet's keyset gives the packet
+abbrev pub status_with : CardState → Packet → KeysetFacts → ℕ
+status_with card packet own = status_under card.facts own (stored_counter own.base packet.keyset card.log) packet
 
 -- with these statuses the counter is used up, and a line is logged
 abbrev pub is_taken : ℕ → Bool
@@ -61,6 +57,24 @@ may_make status (Answered answered) = (answered == status) && not (is_taken stat
 may_make status CutBeforeCounter = is_taken status
 may_make status (Took executed finished took answer answered) =
     (took == status) && is_taken status && is_line_outcome status executed finished answer answered
+
+-- a keyset that isn't among the issued ones may have been put on the card: with the facts of its Open, and base 0
+abbrev pub put_facts : KeysetFacts → KeysetFacts
+put_facts opened = record opened { base = 0 }
+
+-- how a card may answer under a keyset that isn't among its issued ones: it lacks it, or it was put with other facts
+abbrev pub is_answer_unissued : CardStep → Bool
+is_answer_unissued (Answered status) = (status == 0x06) || (status == 0x01) || (status == 0x0A)
+is_answer_unissued _ = false
+
+-- the steps by the issued facts of the packet's keyset, or by none
+abbrev pub may_make_with : CardState → Packet → CardStep → Option KeysetFacts → Bool
+may_make_with card packet step (Some own) = may_make (status_with card packet own) step
+may_make_with card packet step None = is_answer_unissued step || may_make (status_with card packet (put_facts packet.opened)) step
+
+-- the step is one that the card may make with the packet
+abbrev pub may_step : CardState → Packet → CardStep → Bool
+may_step card packet step = may_make_with card packet step (facts_under packet.keyset.kvn card.facts.keysets)
 
 -- the line that the step adds to the card's log
 abbrev pub line_of : Packet → CardStep → Option Line

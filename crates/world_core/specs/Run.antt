@@ -1,8 +1,9 @@
 -- Events one after the other.
-use Rattle.std.specs.Prelude.{◌≡◌, ℕ, Bool, true, ◌⊎◌, Option, Some, None, List, [], ◌∷◌, take, slice_get, Result, Ok, Err}
+use Rattle.std.specs.Prelude.{◌≡◌, ℕ, Bool, true, ◌⊎◌, Option, Some, None, List, [], ◌∷◌, ◌++◌, map, take, slice_get, Result, Ok, Err}
 use Rattle.ota_core.specs.declared.cards.CardId.{CardId}
 use Rattle.world_core.specs.Packet.{Packet}
-use Rattle.world_core.specs.Card.{CardState}
+use Rattle.world_core.specs.Members.{Begins}
+use Rattle.world_core.specs.Card.{CardState, log_of}
 use Rattle.world_core.specs.WorldState.{WorldState}
 use Rattle.world_core.specs.Condition.{IsAllowed, refusal_of, may_want_memory, step_refusal, step_wants_memory}
 use Rattle.world_core.specs.Effect.{world_step, line_by, answer_by}
@@ -38,3 +39,18 @@ Runs before (event ∷ events) after = IsAllowed before event × Runs (world_ste
 abbrev pub StopsAt : WorldState → List Event → WorldState → ℕ × NotAllowed → Type 0
 StopsAt before events after stop =
     Runs before (take stop.0 events) after × ((event : Event) × (slice_get events stop.0 ≡ Some event) × IsRefusalOf after event stop.1)
+
+-- what an event or a run of them leaves of a world: the history, what was sent, made and given, and each log only grow, and
+-- the cards keep their facts
+pub record IsLater (before after : WorldState) : Type 0 where
+  pub history : Begins before.history after.history
+  pub sent : Begins before.sent after.sent
+  pub made : Begins before.made after.made
+  pub given : Begins before.given after.given
+  pub facts : map (λ state. state.facts) after.cards ≡ map (λ state. state.facts) before.cards
+  pub logs : (card : CardId) → Begins (log_of before.cards card) (log_of after.cards card)
+
+-- whatever events led to the world before, with these behind them they lead to the world after
+abbrev pub Continues : WorldState → List Event → WorldState → Type 0
+Continues before events after =
+    (first : WorldState) (earlier : List Event) → Runs first earlier before → Runs first (earlier ++ events) after

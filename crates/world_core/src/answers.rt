@@ -5,7 +5,7 @@ ghost use Rattle.std.specs.Option.{option_to_list};
 ghost use Rattle.std.specs.List.{list_any, list_all};
 ghost use Rattle.world_core.specs.Condition.{is_answer_with, passes, is_given, is_answered};
 
-use crate::packets::is_same_keyset;
+use ota_core::questions::is_same_keyset;
 use ota_core::{CardId, Counter, Entry, KeysetId, Memory, Octets};
 
 /// A secured answer that a card made.

@@ -5,7 +5,7 @@ ghost use Rattle.std.specs.Option.{option_copied, option_to_list};
 ghost use Rattle.world_core.specs.Card.{is_card, find_card, log_of, logged, counter_of, stored_counter};
 
 use crate::lines::Line;
-use crate::packets::is_same_keyset;
+use ota_core::questions::is_same_keyset;
 use ota_core::{CardFacts, CardId, Counter, KeysetId, Memory};
 use std::alloc::{AllocError, Global};
 use std::marker::Model;

@@ -1,11 +1,13 @@
+use crate::batches::Batch;
 use crate::card_steps::CardStep;
-use ota_core::{CardId, Entry};
+use crate::pieces::Pieces;
+use ota_core::CardId;
 
 /// One step of the gateway, of the air or of a card. Numbers are positions from 0 in the lists of a world.
 #[derive(Debug, Drop)]
 pub enum Event {
     /// The gateway begins to write a batch to the journal.
-    Begin(Vec<Entry>),
+    Begin(Batch),
     /// The batch is durable.
     Seal,
     /// A piece of a reservation's packet leaves.
@@ -16,7 +18,7 @@ pub enum Event {
     /// Pieces that left make a packet whole at a card, which makes this step.
     Deliver {
         card: CardId,
-        pieces: Vec<u64>,
+        pieces: Pieces,
         step: CardStep,
     },
     /// An answer that was made reaches the gateway.

@@ -6,6 +6,7 @@
 #![tactic(auto)]
 
 mod answers;
+mod batches;
 mod card_steps;
 mod cards;
 mod events;
@@ -13,15 +14,18 @@ mod journals;
 mod lines;
 mod packets;
 mod parts;
+mod pieces;
 mod receiving;
 mod refusals;
 mod segments;
 mod worlds;
 
 pub use answers::Made;
+pub use batches::Batch;
 pub use card_steps::CardStep;
 pub use events::Event;
 pub use lines::Line;
+pub use pieces::Pieces;
 pub use refusals::NotAllowed;
 pub use segments::Sent;
 pub use worlds::World;

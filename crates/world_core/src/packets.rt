@@ -1,11 +1,9 @@
 //! The packet of a reservation.
 
 ghost use Rattle.std.specs.Prelude.{◌≡◌, ◌<◌, ◌+◌, ◌^◌};
-ghost use Rattle.ota_core.specs.Entry.{facts_in};
-ghost use Rattle.ota_core.specs.History.{first_some};
-ghost use Rattle.ota_core.specs.Keyset.{is_same_keyset};
 ghost use Rattle.world_core.specs.Packet.{packet_at, packet_of, packet_length, pieces_of_length, pieces_of};
 
+use ota_core::questions::opened_facts;
 use ota_core::{Counter, Entry, KeysetFacts, KeysetId, Octets, Tar};
 use std::marker::Model;
 
@@ -74,7 +72,7 @@ fn packet_of<'a>(history: &'a [Entry], entry: &'a Entry) -> Option<ReservedPacke
             tar,
             body,
             ..
-        } => match facts_of(history, *keyset) {
+        } => match opened_facts(history, *keyset) {
             Some(opened) => Some(ReservedPacket {
                 keyset: *keyset,
                 counter: *counter,
@@ -86,39 +84,6 @@ fn packet_of<'a>(history: &'a [Entry], entry: &'a Entry) -> Option<ReservedPacke
         },
         _ => None,
     }
-}
-
-/// The facts with which the history opens the keyset.
-#[tactic(auto, using(crate::proofs::Walks::drop_first))]
-fn facts_of(history: &[Entry], keyset: KeysetId) -> Option<KeysetFacts>
-    ensures { result ≡ first_some (facts_in keyset) history.now }
-{
-    for entry in history {
-        let facts = facts_in(entry, keyset);
-        if facts.is_some() {
-            return facts;
-        }
-    }
-    None
-}
-
-fn facts_in(entry: &Entry, keyset: KeysetId) -> Option<KeysetFacts>
-    ensures { result ≡ facts_in keyset entry.now }
-{
-    match entry {
-        Entry::Open {
-            keyset: opened,
-            facts,
-            ..
-        } if is_same_keyset(*opened, keyset) => Some(*facts),
-        _ => None,
-    }
-}
-
-pub(crate) fn is_same_keyset(a: KeysetId, b: KeysetId) -> bool
-    ensures { result ≡ is_same_keyset a b }
-{
-    a.card.0 == b.card.0 && a.kvn == b.kvn
 }
 
 fn packet_length(ciphered: bool, body: u64) -> u64

@@ -15,7 +15,7 @@ use crate::events::Event;
 use crate::journals::Journal;
 use crate::lines::Line;
 use crate::packets::ReservedPacket;
-use crate::receiving::{answer_of, line_of, may_make, status_of};
+use crate::receiving::{answer_of, line_of, may_step};
 use crate::refusals::NotAllowed;
 use crate::segments::{Sent, piece_at, whole_packet};
 use ota_core::{CardFacts, CardId, Entry, Memory};
@@ -257,7 +257,7 @@ fn outcome_of(
         Some(packet) => packet,
         None => return Err(NotAllowed::NotWhole),
     };
-    if !may_make(status_of(state, &packet), step) {
+    if !may_step(state, &packet, step) {
         return Err(NotAllowed::BadStep);
     }
     let line = line_of(&packet, step)?;

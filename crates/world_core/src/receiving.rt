@@ -1,10 +1,10 @@
 //! What a card does with a packet.
 
-ghost use Rattle.std.specs.Prelude.{◌≡◌, ◌==◌, IfOk, OnErr, IsTrue, find};
+ghost use Rattle.std.specs.Prelude.{◌≡◌, ◌==◌, IfOk, OnErr, IsTrue, None, find};
 ghost use Rattle.std.specs.Option.{option_copied};
 ghost use Rattle.std.specs.Str.{bytes_eq};
 ghost use Rattle.world_core.specs.Card.{facts_under, line_status};
-ghost use Rattle.world_core.specs.Receiving.{is_next, is_other_key, is_below_level, status_under, status_by, status_of, is_taken, is_line_outcome, may_make, line_of, is_secured, answer_of};
+ghost use Rattle.world_core.specs.Receiving.{is_next, is_other_key, is_below_level, status_under, status_with, is_taken, is_line_outcome, may_make, put_facts, is_answer_unissued, may_make_with, may_step, line_of, is_secured, answer_of};
 ghost use Rattle.world_core.specs.Condition.{step_wants_memory};
 
 use crate::answers::Made;
@@ -18,17 +18,51 @@ use std::alloc::Global;
 /// The counter behind which a keyset takes no packet.
 const SPENT: u64 = 0xFF_FFFF_FFFF;
 
-/// The status that the card gives the packet.
-pub(crate) fn status_of(card: &Card, packet: &ReservedPacket<'_>) -> u8
-    ensures { result ≡ status_of card.now packet.now }
+/// Whether the card may make the step with the packet. A keyset that it wasn't issued with may have been put on it.
+pub(crate) fn may_step(card: &Card, packet: &ReservedPacket<'_>, step: &CardStep) -> bool
+    ensures { result ≡ may_step card.now packet.now step.now }
 {
     match facts_under(card.facts().keysets.as_slice(), packet.keyset.kvn) {
-        Some(own) => {
-            let stored = stored_counter(card.log(), packet.keyset, own.base);
-            status_under(card.facts(), &own, stored, packet)
-        }
-        None => 0x06,
+        Some(own) => may_make(status_with(card, packet, &own), step),
+        None => may_make_unissued(card, packet, step),
     }
+}
+
+fn may_make_unissued(card: &Card, packet: &ReservedPacket<'_>, step: &CardStep) -> bool
+    ensures { result ≡ may_make_with card.now packet.now step.now None }
+{
+    is_answer_unissued(step)
+        || may_make(status_with(card, packet, &put_facts(&packet.opened)), step)
+}
+
+fn is_answer_unissued(step: &CardStep) -> bool
+    ensures { result ≡ is_answer_unissued step.now }
+{
+    match step {
+        CardStep::Answered(status) => *status == 0x06 || *status == 0x01 || *status == 0x0A,
+        _ => false,
+    }
+}
+
+/// The facts of a keyset that was put, where it was opened with these.
+fn put_facts(opened: &KeysetFacts) -> KeysetFacts
+    ensures { result ≡ put_facts opened.now }
+{
+    KeysetFacts {
+        base: Counter(0),
+        mode: opened.mode,
+        ciphered: opened.ciphered,
+        kic: opened.kic,
+        kid: opened.kid,
+    }
+}
+
+/// The status that a card with these facts of the packet's keyset gives the packet.
+fn status_with(card: &Card, packet: &ReservedPacket<'_>, own: &KeysetFacts) -> u8
+    ensures { result ≡ status_with card.now packet.now own.now }
+{
+    let stored = stored_counter(card.log(), packet.keyset, own.base);
+    status_under(card.facts(), own, stored, packet)
 }
 
 fn facts_under(keysets: &[(u8, KeysetFacts)], kvn: u8) -> Option<KeysetFacts>
@@ -118,7 +152,7 @@ fn line_status(facts: &CardFacts, tar: Tar, body: &Octets) -> u8
 }
 
 /// Whether the step is one that a card may make with a packet that it gives this status.
-pub(crate) fn may_make(status: u8, step: &CardStep) -> bool
+fn may_make(status: u8, step: &CardStep) -> bool
     ensures { result ≡ may_make status step.now }
 {
     match step {

@@ -1,10 +1,9 @@
 //! The pieces of packets that left.
 
 ghost use Rattle.std.specs.Prelude.{◌≡◌, slice_get, MatchResult, None, Some};
-ghost use Rattle.std.specs.Option.{option_map};
-ghost use Rattle.std.specs.List.{list_any, list_all};
+ghost use Rattle.std.specs.Option.{option_map, option_and_then};
 ghost use Rattle.world_core.specs.Packet.{packet_at};
-ghost use Rattle.world_core.specs.Condition.{is_piece_of, is_at_place, has_places, first_reservation, place_refusal, whole_packet};
+ghost use Rattle.world_core.specs.Condition.{is_piece_of, are_pieces_of, is_at_place, has_place, has_places, first_reservation, place_refusal, packet_whole_at, whole_packet};
 ghost use Rattle.world_core.specs.Effect.{piece_of};
 
 use crate::packets::{ReservedPacket, packet_at};
@@ -41,7 +40,8 @@ pub(crate) fn piece_at(history: &[Entry], reservation: u64, place: u8) -> Result
     }
 }
 
-/// The packet that the pieces make whole at the card.
+/// The packet that the pieces make whole at the card. They can be of no reservation but that of the first one.
+#[tactic(auto, using(crate::proofs::WholePackets::whole_of_first))]
 pub(crate) fn whole_packet<'a>(
     history: &'a [Entry],
     sent: &[Sent],
@@ -49,6 +49,17 @@ pub(crate) fn whole_packet<'a>(
     pieces: &[u64],
 ) -> Option<ReservedPacket<'a>>
     ensures { result ≡ whole_packet history.now sent.now card pieces.now }
+{
+    whole_of_first(history, sent, card, pieces)
+}
+
+fn whole_of_first<'a>(
+    history: &'a [Entry],
+    sent: &[Sent],
+    card: CardId,
+    pieces: &[u64],
+) -> Option<ReservedPacket<'a>>
+    ensures { result ≡ option_and_then (packet_whole_at history.now sent.now card pieces.now) (first_reservation sent.now pieces.now) }
 {
     let reservation = match first_reservation(sent, pieces) {
         Some(reservation) => reservation,
@@ -77,7 +88,7 @@ fn first_reservation(sent: &[Sent], pieces: &[u64]) -> Option<u64>
 }
 
 fn are_pieces_of(sent: &[Sent], card: CardId, reservation: u64, pieces: &[u64]) -> bool
-    ensures { result ≡ list_all (λ piece. is_piece_of card reservation (slice_get sent.now piece)) pieces.now }
+    ensures { result ≡ are_pieces_of sent.now card pieces.now reservation }
 {
     pieces
         .iter()
@@ -94,7 +105,7 @@ fn is_piece_of(sent: &[Sent], card: CardId, reservation: u64, piece: u64) -> boo
 }
 
 /// Whether each place from 1 to the last is among the pieces.
-#[tactic(auto, using(crate::proofs::Walks::places_step))]
+#[tactic(auto, using(crate::proofs::WholePackets::places_step))]
 fn has_places(sent: &[Sent], pieces: &[u64], last: u64) -> bool
     ensures { result ≡ has_places sent.now pieces.now last }
 {
@@ -109,7 +120,7 @@ fn has_places(sent: &[Sent], pieces: &[u64], last: u64) -> bool
 }
 
 fn has_place(sent: &[Sent], pieces: &[u64], place: u64) -> bool
-    ensures { result ≡ list_any (λ piece. is_at_place place (slice_get sent.now piece)) pieces.now }
+    ensures { result ≡ has_place sent.now pieces.now place }
 {
     pieces.iter().any(|piece| is_at_place(sent, place, *piece))
 }

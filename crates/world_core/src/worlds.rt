@@ -4,8 +4,10 @@ ghost use Rattle.world_core.specs.Card.{log_of};
 ghost use Rattle.world_core.specs.WorldState.{issued, written};
 ghost use Rattle.world_core.specs.Condition.{IsAllowed};
 ghost use Rattle.world_core.specs.Effect.{world_step};
-ghost use Rattle.world_core.specs.Run.{IsRefusalOf, Runs, StopsAt};
-ghost use Rattle.world_core.specs.Headline.{SentIsReserved, OneCounter, AtMostOnce, TrueReports, LinesAreReserved, LogsAreSound, AnswersAreTrue, GivenWasMade};
+ghost use Rattle.world_core.specs.Run.{IsRefusalOf, Runs, StopsAt, IsLater, Continues};
+ghost use Rattle.world_core.specs.Settling.{BeginsSettlement};
+ghost use Rattle.world_core.specs.Delivery.{DeliversWhole, DeliversNoWhole};
+ghost use Rattle.world_core.specs.Headline.{SentIsReserved, OneCounter, AtMostOnce, TrueReports, LinesAreReserved, LogsAreSound, AnswersAreTrue, AnswersAreOwn, GivenWasMade};
 ghost use Rattle.world_core.specs.Sound.{Differ};
 
 use crate::answers::Made;
@@ -52,6 +54,14 @@ impl World {
         ensures effect { OnOk result (self.new ≡ world_step self.old event.now) }
         ensures refused { IfErr result (IsRefusalOf self.old event.now) }
         ensures unchanged { OnErr result (self.new ≡ self.old) }
+
+        // A packet is delivered exactly where the pieces are of one reservation, with each place of its packet:
+        ensures whole { OnOk result (DeliversWhole self.old event.now) }
+        ensures not_whole { IfErr result (λ refusal. refusal ≡ NotAllowed.NotWhole → DeliversNoWhole self.old event.now) }
+
+        // A receipt that was given may be settled where its keyset is open and its counter isn't settled:
+        ensures settles { IfErr result (λ refusal. BeginsSettlement self.old event.now → refusal ≡ NotAllowed.Memory) }
+        ensures later { IsLater self.old self.new }
     {
         self.parts.step(event)
     }
@@ -60,6 +70,8 @@ impl World {
     pub fn run(&mut self, events: &[Event]) -> Result<(), (u64, NotAllowed)>
         ensures ran { OnOk result (Runs self.old events.now self.new) }
         ensures stopped { IfErr result (StopsAt self.old events.now self.new) }
+        ensures continues { OnOk result (Continues self.old events.now self.new) }
+        ensures later { IsLater self.old self.new }
 
         // Whatever the events were:
         ensures legal { IsLegal self.new.history }
@@ -71,6 +83,7 @@ impl World {
         ensures lines_reserved { LinesAreReserved self.new }
         ensures logs_sound { LogsAreSound self.new }
         ensures answers_true { AnswersAreTrue self.new }
+        ensures answers_own { AnswersAreOwn self.new }
         ensures given_made { GivenWasMade self.new }
     {
         let outcome = self.run_all(events);
@@ -98,6 +111,7 @@ impl World {
     pub fn made(&self) -> &[Made]
         ensures made { result.now ≡ self.now.made }
         ensures answers_true { AnswersAreTrue self.now }
+        ensures answers_own { AnswersAreOwn self.now }
     {
         self.parts.made()
     }

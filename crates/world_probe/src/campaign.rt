@@ -7,7 +7,7 @@ use ota_core::{
 };
 use std::alloc::Global;
 use std::time::CpuClock;
-use world_core::{CardStep, Event, World};
+use world_core::{Batch, CardStep, Event, Pieces, World};
 
 const CARD: CardId = CardId(8901);
 
@@ -74,7 +74,7 @@ fn job_events(alloc: Global, job: u32) -> Result<Vec<Event>> {
         answered: true,
     };
     let events = vec![in alloc;
-        Event::Begin(vec![in alloc; reserve]?),
+        Event::Begin(Batch::new(vec![in alloc; reserve]?)),
         Event::Seal,
         Event::Leave {
             reservation: 2 * place + 1,
@@ -82,11 +82,11 @@ fn job_events(alloc: Global, job: u32) -> Result<Vec<Event>> {
         },
         Event::Deliver {
             card: CARD,
-            pieces: vec![in alloc; place]?,
+            pieces: Pieces::new(vec![in alloc; place]?),
             step
         },
         Event::Give { made: place },
-        Event::Begin(vec![in alloc; done]?),
+        Event::Begin(Batch::new(vec![in alloc; done]?)),
         Event::Seal,
     ]?;
     Ok(events)
@@ -108,7 +108,7 @@ fn run(alloc: Global, jobs: u32) -> Result<(World, u64)> {
         keyset: keyset(),
         facts: facts()?,
     };
-    let first = vec![in alloc; Event::Begin(vec![in alloc; open]?), Event::Seal]?;
+    let first = vec![in alloc; Event::Begin(Batch::new(vec![in alloc; open]?)), Event::Seal]?;
     let mut taken = take(&mut world, first.as_slice())?;
     for job in 1..=jobs {
         let events = job_events(alloc, job)?;

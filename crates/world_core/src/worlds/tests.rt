@@ -1,7 +1,9 @@
 ghost use Rattle.std.specs.Prelude.{◌≤◌};
 
+use crate::batches::Batch;
 use crate::card_steps::CardStep;
 use crate::events::Event;
+use crate::pieces::Pieces;
 use crate::refusals::NotAllowed;
 use crate::worlds::World;
 use ota_core::{
@@ -86,13 +88,13 @@ fn reserved(alloc: Global, counter: Counter, job: u32) -> Result<Entry, Memory> 
 }
 
 fn begin(alloc: Global, entry: Entry) -> Result<Event, Fail> {
-    Ok(Event::Begin(vec![in alloc; entry]?))
+    Ok(Event::Begin(Batch::new(vec![in alloc; entry]?)))
 }
 
 fn delivery(alloc: Global, step: CardStep) -> Result<Event, Fail> {
     Ok(Event::Deliver {
         card: CARD,
-        pieces: vec![in alloc; 0]?,
+        pieces: Pieces::new(vec![in alloc; 0]?),
         step,
     })
 }

@@ -2,8 +2,9 @@ use Rattle.std.proofs.Common.{subst}
 use Rattle.world_core.specs.WorldState.{WorldState}
 use Rattle.ota_core.specs.History.{IsLegal}
 use Rattle.world_core.proofs.SoundLemmas.{legal_history}
-use Rattle.world_core.specs.Headline.{SentIsReserved, LogsAreSound, AnswersAreTrue, AtMostOnce, GivenWasMade, LinesAreReserved, OneCounter}
+use Rattle.world_core.specs.Headline.{SentIsReserved, LogsAreSound, AnswersAreTrue, AnswersAreOwn, AtMostOnce, GivenWasMade, LinesAreReserved, OneCounter}
 use Rattle.world_core.proofs.HeadlineLemmas.{at_most_once, one_counter}
+use Rattle.world_core.proofs.StepLemmas.{continues_after, later_run}
 use Rattle.world_core.proofs.worlds.World.run.Goals as goal
 
 pub returns-clause-one_counter : goal.returns-clause-one_counter
@@ -29,3 +30,14 @@ returns-clause-sent_reserved c = subst (λ (w : WorldState). SentIsReserved w) c
 
 pub returns-clause-logs_sound : goal.returns-clause-logs_sound
 returns-clause-logs_sound c = subst (λ (w : WorldState). LogsAreSound w) c.self.view_is (c.self.invariant.cards)
+
+pub returns-clause-answers_own : goal.returns-clause-answers_own
+returns-clause-answers_own c = subst (λ (w : WorldState). AnswersAreOwn w) c.self.view_is (c.self.invariant.own)
+
+pub returns-clause-continues : goal.returns-clause-continues
+returns-clause-continues c =
+    continues_after c.args.self.now c.run_all-outcome.new.self c.args.events.now c.run_all-outcome.result c.run_all-outcome.ensures.ran
+
+pub returns-clause-later : goal.returns-clause-later
+returns-clause-later c =
+    later_run c.args.self.now c.run_all-outcome.new.self c.args.events.now c.run_all-outcome.result c.run_all-outcome.ensures.ran c.run_all-outcome.ensures.stopped

@@ -1,4 +1,4 @@
--- Lists, options and conditions.
+-- Laws of lists, options and conditions, which other crates cite.
 use Rattle.std.proofs.Common.{◌≡◌, ℕ, zero, suc, Bool, true, false, ◌||◌, ◌⊎◌, inl, inr, Option, Some, None, is_none, List, [], ◌∷◌, ◌++◌, map, reverse, slice_get, refl, sym, ap}
 use Rattle.std.specs.Option.{option_or, option_map, option_and_then}
 use Rattle.std.specs.List.{list_any, list_all, flat_map}

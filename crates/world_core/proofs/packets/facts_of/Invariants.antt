@@ -1,7 +1,0 @@
-use Rattle.std.proofs.Common.{◌≡◌, drop}
-use Rattle.ota_core.specs.Entry.{facts_in}
-use Rattle.ota_core.specs.History.{first_some}
-use Rattle.world_core.proofs.packets.facts_of.Given as goal
-
-abbrev pub invariant-loop-entry : goal.invariant-loop-entry
-invariant-loop-entry l = first_some (facts_in l.keyset) l.history ≡ first_some (facts_in l.keyset) (drop l.entry-index l.history)
