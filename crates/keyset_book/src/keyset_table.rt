@@ -1,8 +1,8 @@
 //! The keysets of a book.
 
-ghost use Rattle.std.specs.Prelude.{◌≡◌, ℕ, true, if◌then◌else◌, Some, OnOk};
-ghost use Rattle.ota_core.specs.Keyset.{Keyset, is_same_keyset};
-ghost use Rattle.keyset_book.specs.Tables.{known_in, has_keyset_place};
+ghost use Rattle.std.specs.Prelude.{◌≡◌, true, None, is_ok, OnOk};
+ghost use Rattle.ota_core.specs.Keyset.{Keyset};
+ghost use Rattle.keyset_book.specs.Tables.{known_in, has_keyset_place, FillsKeyset};
 
 use ota_core::{Counter, KeysetFacts, KeysetId, Memory};
 use std::alloc::Global;
@@ -24,7 +24,9 @@ pub(crate) struct KeysetTable {
 }
 
 impl KeysetTable {
+    /// The empty table.
     pub(crate) fn new(alloc: Global) -> KeysetTable
+        ensures { (keyset : Keyset) → known_in result keyset ≡ None }
     {
         KeysetTable {
             places: BTreeMap::new(alloc),
@@ -46,6 +48,7 @@ impl KeysetTable {
         ensures same { (other : Keyset) → known_in self.new other ≡ known_in self.old other }
         ensures kept { (other : Keyset) → has_keyset_place self.old other ≡ true → has_keyset_place self.new other ≡ true }
         ensures made { OnOk result (has_keyset_place self.new keyset ≡ true) }
+        ensures there { has_keyset_place self.old keyset ≡ true → is_ok result ≡ true }
     {
         if self.places.contains_key(&keyset) {
             return Ok(());
@@ -56,7 +59,7 @@ impl KeysetTable {
 
     /// Fills the keyset's place. Where there is none, nothing is done.
     pub(crate) fn fill(&mut self, keyset: KeysetId, known: Known)
-        ensures filled { has_keyset_place self.old keyset ≡ true → (other : Keyset) → known_in self.new other ≡ (if is_same_keyset keyset other then Some known else known_in self.old other) }
+        ensures filled { has_keyset_place self.old keyset ≡ true → FillsKeyset self.old keyset known self.new }
         ensures kept { (other : Keyset) → has_keyset_place self.old other ≡ true → has_keyset_place self.new other ≡ true }
     {
         if let Some(place) = self.places.get_mut(&keyset) {

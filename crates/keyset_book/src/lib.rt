@@ -1,4 +1,16 @@
 //! The book of a lane: what its history says of each keyset, job and counter, found without a walk over the history.
+//!
+//! A book stands for a legal history, and answers as a walk over that history would. Each answer takes the time of a
+//! look-up and no memory.
 #![tactic(auto)]
 
+mod answers;
+
+mod counter_table;
+
+mod job_table;
 mod keyset_table;
+
+
+pub use answers::{BookErr, Looked, Settled};
+
