@@ -1,1 +1,5 @@
 pub mod Tables
+pub mod Answers
+pub mod Book
+pub mod Rules
+pub mod Entering

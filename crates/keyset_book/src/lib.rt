@@ -5,12 +5,12 @@
 #![tactic(auto)]
 
 mod answers;
-
+mod books;
 mod counter_table;
-
+mod entering;
 mod job_table;
 mod keyset_table;
-
+mod rules;
 
 pub use answers::{BookErr, Looked, Settled};
-
+pub use books::Book;
