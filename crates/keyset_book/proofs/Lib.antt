@@ -1,1 +1,3 @@
 pub mod PastLemmas
+pub mod RuleLemmas
+pub mod EnteringLemmas

@@ -218,3 +218,9 @@ last_reserved job place (Done by moment keyset counter answer ∷ past) last = l
 last_reserved job place (Refused by moment keyset counter status ∷ past) last = last_reserved job place past last
 last_reserved job place (Close by moment keyset ∷ past) last = last_reserved job place past last
 
+-- where no element passes the test, none is found
+pub unfound : {X : Type 0} (test : X → Bool) (xs : List X) → list_any test xs ≡ false → find test xs ≡ None
+unfound test [] none = refl
+unfound test (x ∷ xs) none =
+    let parts = or_parts (test x) (list_any test xs) none in
+    rw (parts.0) (unfound test xs parts.1)

@@ -1,6 +1,5 @@
 -- The history that a book stands for, and what it has room for.
 use Rattle.std.specs.Prelude.{◌≡◌, ℕ, Bool, true, ◌&&◌, if◌then◌else◌, unwrap_or, Option, Some, None, List, [], ◌∷◌, reverse, find}
-use Rattle.std.specs.Option.{option_map}
 use Rattle.std.specs.List.{list_any}
 use Rattle.ota_core.specs.Keyset.{Keyset}
 use Rattle.ota_core.specs.Entry.{Reservation, facts_in, counter_in, is_close_of, is_reserve_of, is_settlement_of}
@@ -16,14 +15,14 @@ use Rattle.keyset_book.specs.declared.counter_table.Standing.{Standing}
 use Rattle.keyset_book.specs.declared.counter_table.Standing.TheVariants as standing
 use Rattle.keyset_book.specs.declared.books.Book.{Book}
 
--- what a past says of a keyset that it opens with these facts
-abbrev pub known_with : Keyset → List Entry → KeysetFacts → Known
-known_with keyset past facts =
-    record { facts = facts; last = unwrap_or (first_some (counter_in keyset) past) 0; closed = list_any (is_close_of keyset) past }
+-- what is known of a keyset with these facts, last counter and Close
+abbrev pub known_from : Option KeysetFacts → Option ℕ → Bool → Option Known
+known_from None last closed = None
+known_from (Some facts) last closed = Some (record { facts = facts; last = unwrap_or last 0; closed = closed })
 
 -- what a past says of a keyset
 abbrev pub known_by : Keyset → List Entry → Option Known
-known_by keyset past = option_map (known_with keyset past) (first_some (facts_in keyset) past)
+known_by keyset past = known_from (first_some (facts_in keyset) past) (first_some (counter_in keyset) past) (list_any (is_close_of keyset) past)
 
 -- how a reserved counter stands by its settlement
 abbrev pub standing_of : Option Entry → Standing
