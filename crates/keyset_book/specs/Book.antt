@@ -1,6 +1,6 @@
 -- The history that a book stands for, and what it has room for.
-use Rattle.std.specs.Prelude.{◌≡◌, ℕ, Bool, true, ◌&&◌, if◌then◌else◌, unwrap_or, Option, Some, None, List, [], ◌∷◌, reverse, find}
-use Rattle.std.specs.List.{list_any}
+use Rattle.std.specs.Prelude.{◌≡◌, ℕ, Bool, true, false, ◌&&◌, if◌then◌else◌, unwrap_or, Option, Some, None, List, [], ◌∷◌, reverse, find}
+use Rattle.std.specs.List.{list_any, list_all}
 use Rattle.ota_core.specs.Keyset.{Keyset}
 use Rattle.ota_core.specs.Entry.{Reservation, facts_in, counter_in, is_close_of, is_reserve_of, is_settlement_of}
 use Rattle.ota_core.specs.History.{first_some, last_reservation, IsLegal}
@@ -56,5 +56,11 @@ has_room_for book _ = true
 
 -- the book has the places that the entries fill anew
 abbrev pub HasRoom : Book → List Entry → Type 0
-HasRoom book [] = Unit {0}
-HasRoom book (entry ∷ entries) = (has_room_for book entry ≡ true) × HasRoom book entries
+HasRoom book entries = list_all (has_room_for book) entries ≡ true
+
+-- the entry fills no place anew
+abbrev pub needs_no_room : Entry → Bool
+needs_no_room (entry.Done by moment keyset counter answer) = true
+needs_no_room (entry.Refused by moment keyset counter status) = true
+needs_no_room (entry.Close by moment keyset) = true
+needs_no_room _ = false

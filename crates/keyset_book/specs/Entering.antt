@@ -6,7 +6,7 @@ use Rattle.ota_core.specs.declared.jobs.JobId.{JobId}
 use Rattle.ota_core.specs.declared.keysets.KeysetFacts.{KeysetFacts}
 use Rattle.ota_core.specs.declared.entries.Entry.{Entry}
 use Rattle.ota_core.specs.declared.entries.Entry.TheVariants as entry
-use Rattle.keyset_book.specs.Tables.{known_in, has_keyset_place, FillsKeyset, has_job_place, FillsJob, has_counter_place, FillsCounter}
+use Rattle.keyset_book.specs.Tables.{known_in, has_keyset_place, FillsKeyset, reserved_in, has_job_place, FillsJob, standing_in, has_counter_place, FillsCounter}
 use Rattle.keyset_book.specs.declared.keyset_table.Known.{Known}
 use Rattle.keyset_book.specs.declared.counter_table.Standing.{Standing}
 use Rattle.keyset_book.specs.declared.counter_table.Standing.TheVariants as standing
@@ -52,3 +52,10 @@ pub record KeepsPlaces (old new : Book) : Type 0 where
   pub keysets : (keyset : Keyset) → has_keyset_place old.keysets keyset ≡ true → has_keyset_place new.keysets keyset ≡ true
   pub jobs : (job : JobId) → has_job_place old.jobs job ≡ true → has_job_place new.jobs job ≡ true
   pub counters : (counter : Reservation) → has_counter_place old.counters counter ≡ true → has_counter_place new.counters counter ≡ true
+
+-- the one book says what the other says
+pub record SaysSame (old new : Book) : Type 0 where
+  pub keysets : (keyset : Keyset) → known_in new.keysets keyset ≡ known_in old.keysets keyset
+  pub jobs : (job : JobId) → reserved_in new.jobs job ≡ reserved_in old.jobs job
+  pub counters : (counter : Reservation) → standing_in new.counters counter ≡ standing_in old.counters counter
+  pub moment : new.moment ≡ old.moment

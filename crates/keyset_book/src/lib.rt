@@ -5,11 +5,13 @@
 #![tactic(auto)]
 
 mod answers;
+mod asked;
 mod books;
 mod counter_table;
 mod entering;
 mod job_table;
 mod keyset_table;
+mod room;
 mod rules;
 
 pub use answers::{BookErr, Looked, Settled};

@@ -13,7 +13,7 @@ use crate::counter_table::Standing;
 use ota_core::{Counter, Entry, Illegal, JobId, KeysetId, Reservation};
 
 /// The last counter that may be reserved.
-const LAST_COUNTER: u64 = 0xFF_FFFF_FFFE;
+pub(crate) const LAST_COUNTER: u64 = 0xFF_FFFF_FFFE;
 
 /// The first rule that the entry breaks. That its moment isn't below the last one is tried last.
 pub(crate) fn may_follow(book: &Book, entry: &Entry) -> Result<(), Illegal>
