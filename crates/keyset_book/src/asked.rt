@@ -1,6 +1,7 @@
 //! What the tables of a book answer.
 
 ghost use Rattle.std.specs.Prelude.{◌≡◌, ◌+◌, nat_le, if◌then◌else◌, Ok, Err};
+ghost use Rattle.std.specs.Option.{option_map};
 ghost use Rattle.keyset_book.specs.Asked.{next_after, state_with, looked_at, looked_after, settled_with};
 
 use crate::answers::{BookErr, Looked, Settled};
@@ -8,7 +9,7 @@ use crate::books::Book;
 use crate::counter_table::Standing;
 use crate::keyset_table::Known;
 use crate::rules::LAST_COUNTER;
-use ota_core::{Counter, KeysetState, Reservation};
+use ota_core::{Counter, KeysetFacts, KeysetState, Reservation};
 
 pub(crate) fn next_after(known: Option<Known>) -> Result<Counter, BookErr>
     ensures { result ≡ next_after known }
@@ -38,6 +39,18 @@ pub(crate) fn state_with(known: Option<Known>) -> KeysetState
         Some(known) if known.closed => KeysetState::Closed,
         Some(_) => KeysetState::Open,
     }
+}
+
+pub(crate) fn facts_with(known: Option<Known>) -> Option<KeysetFacts>
+    ensures { result ≡ option_map (λ known. known.facts) known }
+{
+    known.map(|known| known.facts)
+}
+
+pub(crate) fn last_with(known: Option<Known>) -> Option<Counter>
+    ensures { result ≡ option_map (λ known. known.last) known }
+{
+    known.map(|known| known.last)
 }
 
 pub(crate) fn looked_after(book: &Book, last: Option<Reservation>) -> Looked

@@ -1,7 +1,7 @@
 //! The book of a history.
 
 use crate::answers::{BookErr, Looked, Settled};
-use crate::asked::{looked_after, next_after, settled_with, state_with};
+use crate::asked::{facts_with, last_with, looked_after, next_after, settled_with, state_with};
 use crate::counter_table::CounterTable;
 use crate::entering::enter;
 use crate::job_table::JobTable;
@@ -136,14 +136,14 @@ impl Book {
     pub fn opened_facts(&self, keyset: KeysetId) -> Option<KeysetFacts>
         ensures { (history : List Entry) → StandsFor self.now history → result ≡ opened_facts keyset history }
     {
-        self.keysets.look(keyset).map(|known| known.facts)
+        facts_with(self.keysets.look(keyset))
     }
 
     /// The last counter of the keyset that is used up: the base of its Open, or the last reserved one.
     pub fn last_counter(&self, keyset: KeysetId) -> Option<Counter>
         ensures { (history : List Entry) → StandsFor self.now history → result ≡ first_some (counter_in keyset) (reverse history) }
     {
-        self.keysets.look(keyset).map(|known| known.last)
+        last_with(self.keysets.look(keyset))
     }
 
     /// The last reservation for the job.
