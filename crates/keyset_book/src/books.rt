@@ -80,7 +80,8 @@ impl Book {
     /// memory.
     pub fn put(&mut self, entries: &[Entry])
         requires room { HasRoom self.old entries.now }
-        ensures { (history : List Entry) → StandsFor self.old history → broken_batch (reverse history) entries.now ≡ None → StandsFor self.new (history ++ entries.now) }
+        ensures put { (history : List Entry) → StandsFor self.old history → broken_batch (reverse history) entries.now ≡ None → StandsFor self.new (history ++ entries.now) }
+        ensures kept { (others : List Entry) → HasRoom self.old others → HasRoom self.new others }
     {
         for entry in entries {
             enter(self, entry);

@@ -16,3 +16,6 @@ mod rules;
 
 pub use answers::{BookErr, Looked, Settled};
 pub use books::Book;
+
+#[cfg(test)]
+mod tests;

@@ -9,3 +9,4 @@ abbrev pub invariant-loop-entry : goal.invariant-loop-entry
 invariant-loop-entry l =
     ((history : List Entry) → StandsFor l.fn.self history → broken_batch (reverse history) l.entries ≡ None → IsPut history l.entries l.entry-index l.self)
     × HasRoom l.self l.entries
+    × ((others : List Entry) → HasRoom l.fn.self others → HasRoom l.self others)
