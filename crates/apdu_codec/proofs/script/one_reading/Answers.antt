@@ -1,4 +1,4 @@
-use Rattle.apdu_codec.proofs.Readings.{some_reading, one_list, one_cut, apart, some_count, one_count, whole, rest_at}
+use Rattle.apdu_codec.specs.ScriptLaws.{some_reading, one_list, one_cut, apart, some_count, one_count, whole, rest_at}
 use Rattle.apdu_codec.proofs.script.one_reading.Goals as goal
 
 pub returns-clause-some_reading : goal.returns-clause-some_reading

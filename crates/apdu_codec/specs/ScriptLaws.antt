@@ -1,10 +1,10 @@
--- What a script is read as is one thing, since what stands at a place is one thing, and each command goes on.
-use Rattle.std.proofs.Common.{◌≡◌, ◌⊎◌, inl, inr, ℕ, zero, suc, ◌+◌, ◌≤◌, List, [], ◌∷◌, length, drop, length-drop, refl, sym, subst, ap, arith}
+-- Laws of the reading of scripts, which other crates cite: each is read in one way, and each command goes on.
+use Rattle.std.proofs.Common.{◌≡◌, ◌⊎◌, inl, inr, ℕ, zero, suc, ◌+◌, ◌-◌, ◌<◌, ◌≤◌, List, [], ◌∷◌, length, drop, length-drop, refl, sym, subst, ap, ◌∙◌, arith}
 use Rattle.apdu_codec.specs.declared.apdu.Apdu.{Apdu}
 use Rattle.apdu_codec.specs.declared.apdu.Next.{Next}
 use Rattle.apdu_codec.specs.declared.apdu.Next.TheVariants.{End, Command, Short}
 use Rattle.apdu_codec.specs.Apdu.{next_of, front_of, GoesForward}
-use Rattle.apdu_codec.specs.Script.{Splits, IsCutAt, HasCommands}
+use Rattle.apdu_codec.specs.Script.{Splits, IsCutAt, HasCommands, IsBehind}
 use Rattle.apdu_codec.specs.Script.Splits.{ended, command}
 use Rattle.apdu_codec.specs.Script.IsCutAt.{here, later}
 use Rattle.apdu_codec.specs.Script.HasCommands.{none, cut_off, one_more}
@@ -115,3 +115,28 @@ counted script (inr cut) = counted_cut script cut.0 0 cut.1
 
 pub some_count : (script : List ℕ) → (count : ℕ) × HasCommands script 0 count
 some_count script = counted script (some_reading script)
+
+-- within a script there is a command
+pub some_left : (script : List ℕ) (at count : ℕ) → at < length script → HasCommands script at count → 0 < count
+some_left script at count within (none _ e) =
+    let P : Next → Type 0 = λ next. GoesForward at (length script) next in
+    let end : at ≡ length script = subst P e (forward script at (omega (arith, within))) in
+    omega (arith, within, end)
+some_left script at count within (cut_off _ e) = omega arith
+some_left script at count within (one_more _ next n apdu e s) = omega arith
+
+-- behind a command there is one command less
+pub one_less : (script : List ℕ) (at next count : ℕ) → IsBehind script at next → HasCommands script at count → HasCommands script next (count - 1)
+one_less script at next count behind (none _ e) =
+    let reads = behind.reads in
+    cc
+one_less script at next count behind (cut_off _ e) =
+    let reads = behind.reads in
+    cc
+one_less script at next count behind (one_more _ n x a e s) =
+    let same : ◌≡◌ {A = Next} (Command a n) (Command behind.command next) = sym e ∙ behind.reads in
+    let places : n ≡ next = cc in
+    let left : x ≡ suc x - 1 = omega arith in
+    let P : ℕ → Type 0 = λ k. HasCommands script k (suc x - 1) in
+    let Q : ℕ → Type 0 = λ k. HasCommands script n k in
+    subst P places (subst Q left s)
