@@ -3,3 +3,4 @@ pub mod Compact
 pub mod Refusal
 pub mod Reply
 pub mod Script
+pub mod ScriptLaws

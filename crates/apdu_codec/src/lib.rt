@@ -15,4 +15,4 @@ pub use apdu::{Apdu, Next, next_apdu};
 pub use compact::compact_response;
 pub use refusal::{DONE, Refusal};
 pub use reply::Reply;
-pub use script::{ScriptErr, split_script};
+pub use script::{ScriptErr, count_commands, one_reading, split_script};

@@ -1,6 +1,6 @@
 //! What a command is answered.
 
-ghost use Rattle.std.specs.Prelude.{◌≡◌, []};
+ghost use Rattle.std.specs.Prelude.{◌≡◌, ◌≤◌, [], length};
 ghost use Rattle.apdu_codec.specs.Refusal.{status_word_of};
 
 use crate::refusal::{DONE, Refusal};
@@ -20,8 +20,9 @@ pub struct Reply {
 impl Reply {
     /// The answer to a command that was done and gives these octets.
     pub fn done(out: ArrayVec<u8, 256>) -> Reply
-        ensures word { result.sw ≡ DONE }
+        ensures word { result.sw ≡ 0x9000 }
         ensures octets { result.out ≡ out }
+        ensures short { length result.out.items ≤ 256 }
     {
         Reply { sw: DONE, out }
     }

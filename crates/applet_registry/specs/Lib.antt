@@ -2,5 +2,6 @@ pub mod Aid
 pub mod Commands
 pub mod DataBlock
 pub mod Fields
+pub mod Keyset
 pub mod State
 pub mod Status

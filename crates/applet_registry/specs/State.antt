@@ -1,19 +1,34 @@
--- The load files and the applications of a card, and the load under way. GlobalPlatform Card Specification
--- 2.1.1, 5 and 6.
-use Rattle.std.specs.Prelude.{ℕ, ◌+◌, Bool, false, not, ◌||◌, ◌&&◌, ◌==◌, nat_lt, if◌then◌else◌, Option, None, option_map, List, ◌++◌, length, map, filter, find, sum_by, bytes_eq}
+-- The load files and the applications of a card, the load under way, and the keysets. GlobalPlatform Card
+-- Specification 2.1.1, 5 and 6; ETSI TS 102 225, 5.1.2.
+use Rattle.std.specs.Prelude.{ℕ, ◌+◌, Bool, false, not, ◌||◌, ◌&&◌, ◌==◌, nat_lt, nat_eq, if◌then◌else◌, Option, None, option_map, List, ◌++◌, length, map, filter, find, sum_by, bytes_eq}
 use Rattle.std.specs.List.{list_any}
 use Rattle.std.specs.Option.{option_map_or}
 use Rattle.applet_registry.specs.declared.application.Application.{Application}
 use Rattle.applet_registry.specs.declared.application.NewState.{NewState}
 use Rattle.applet_registry.specs.declared.load.Load.{Load}
 use Rattle.applet_registry.specs.declared.load_file.LoadFile.{LoadFile}
-use Rattle.applet_registry.specs.declared.limits.TheConstants.{LOAD_BLOCKS}
+use Rattle.ota_core.specs.declared.keysets.KeysetFacts.{KeysetFacts}
 
--- the load files and the applications, each in order of registration, and the load under way
+-- the load files and the applications, each in order of registration, and the load under way; the numbers of
+-- the keysets with which the card was issued, and the keysets that were put, each with its number
 pub record State : Type 0 where
   pub load_files : List LoadFile
   pub applications : List Application
   pub load : Option Load
+  pub issued : List ℕ
+  pub put : List (ℕ × KeysetFacts)
+
+-- the card was issued with a keyset of this number
+abbrev pub is_issued : State → ℕ → Bool
+is_issued s kvn = list_any (λ issued. nat_eq issued kvn) s.issued
+
+-- the keyset of this number among others
+abbrev pub keyset_in : List (ℕ × KeysetFacts) → ℕ → Option KeysetFacts
+keyset_in keysets kvn = option_map (λ keyset. keyset.1) (find (λ keyset. nat_eq keyset.0 kvn) keysets)
+
+-- the keyset that was put with this number
+abbrev pub put_of : State → ℕ → Option KeysetFacts
+put_of s kvn = keyset_in s.put kvn
 
 -- there is a load file, or an application, with this AID
 abbrev pub has_load_file : State → List ℕ → Bool
@@ -71,9 +86,9 @@ under_way s = option_map_or (λ load. length load.blocks) s.load 0
 abbrev pub room_of : State → ℕ
 room_of s = total_of s.load_files + under_way s
 
--- the block with this number, from 0, is the next one of a load
+-- the block with this number, from 0, is the next one of a load; there are at most 256
 abbrev pub awaits_block : Load → ℕ → Bool
-awaits_block load number = number == load.count && nat_lt load.count LOAD_BLOCKS
+awaits_block load number = number == load.count && nat_lt load.count 256
 
 -- a load has taken one block more
 abbrev pub with_block : Load → List ℕ → Load

@@ -7,7 +7,7 @@ use crate::aid::Aid;
 use crate::application::Application;
 
 /// The value behind its length of one octet, and what stands behind the value.
-fn field(octets: &[u8]) -> Option<(&[u8], &[u8])>
+pub(crate) fn field(octets: &[u8]) -> Option<(&[u8], &[u8])>
     ensures { option_map (λ field. (field.0.now, field.1.now)) result ≡ field_of octets.now }
 {
     match octets {

@@ -1,4 +1,4 @@
-//! The load files and the applications of a card, and the commands on them.
+//! The load files, the applications and the keysets of a card, and the commands on them.
 //!
 //! GlobalPlatform Card Specification 2.1.1, 5, 6 and 9.
 #![tactic(auto)]
@@ -8,6 +8,7 @@ mod application;
 mod blocks;
 mod data_block;
 mod fields;
+mod keyset;
 pub mod limits;
 mod load;
 mod load_file;

@@ -1,4 +1,4 @@
-//! What the card has room for, and the lengths of AIDs.
+//! What the card has room for, the lengths of AIDs, and the numbers of keysets.
 
 /// The octets that all load files may hold together, with the blocks of a load under way.
 pub const LOAD_FILES_ROOM: u32 = 65_536;
@@ -20,3 +20,9 @@ pub const AID_SHORTEST: usize = 5;
 
 /// The most octets of an AID. ISO/IEC 7816-4, 8.2.1.2.
 pub const AID_LONGEST: usize = 16;
+
+/// The least number of a keyset. ETSI TS 102 225, 5.1.2.
+pub const KVN_FIRST: u8 = 0x01;
+
+/// The greatest number of a keyset. ETSI TS 102 225, 5.1.2.
+pub const KVN_LAST: u8 = 0x0F;

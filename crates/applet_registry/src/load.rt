@@ -31,7 +31,7 @@ impl Load {
 
     /// Takes a block.
     pub fn add(&mut self, block: &[u8]) -> Result<(), Memory>
-        requires { self.old.count < LOAD_BLOCKS }
+        requires { self.old.count < 256 }
         ensures ok { IfOk result (λ _. self.new ≡ with_block self.old block.now) }
         ensures err { OnErr result (self.new ≡ self.old) }
     {

@@ -1,9 +1,9 @@
 //! The load files and the applications of a card.
 
-ghost use Rattle.std.specs.Prelude.{◌≡◌, ◌+◌, ◌<◌, length, nat_le, option_and_then, MatchResult, IfOk, IfSome, OnErr, Ok, Err};
+ghost use Rattle.std.specs.Prelude.{◌≡◌, ◌+◌, ◌<◌, [], if◌then◌else◌, length, nat_le, option_and_then, option_copied, IsOk, MatchResult, IfOk, IfSome, OnErr, Ok, Err};
 ghost use Rattle.apdu_codec.specs.Reply.{answer, answered};
 ghost use Rattle.applet_registry.specs.Commands as command;
-ghost use Rattle.applet_registry.specs.State.{has_load_file, has_application, is_loading, is_known, is_in_use, without_application, without_load_file, without_load, under_way, room_of};
+ghost use Rattle.applet_registry.specs.State.{is_issued, put_of, has_load_file, has_application, is_loading, is_known, is_in_use, without_application, without_load_file, without_load, under_way, room_of};
 ghost use Rattle.applet_registry.specs.Status.{fitting};
 
 use crate::aid::Aid;
@@ -11,17 +11,19 @@ use crate::application::{Application, INSTALLED, NewState, SELECTABLE, set_state
 use crate::blocks::Blocks;
 use crate::data_block::data_block;
 use crate::fields::{installed, new_application, new_load_file, tagged_value};
-use crate::limits::{ANSWER_ROOM, APPLICATIONS, LOAD_BLOCKS, LOAD_FILES, LOAD_FILES_ROOM};
+use crate::keyset::{are_same, keyset_of};
+use crate::limits::{APPLICATIONS, KVN_FIRST, KVN_LAST, LOAD_FILES, LOAD_FILES_ROOM};
 use crate::load::Load;
 use crate::load_file::{LoadFile, total};
 use crate::status::{Out, of_applications, of_load_files};
 use apdu_codec::{Refusal, Reply};
 use arrayvec::ArrayVec;
-use ota_core::{Memory, Octets};
+use ota_core::{KeysetFacts, KeysetList, Memory, Octets};
 use std::alloc::Global;
 use std::marker::Model;
 
-/// The load files and the applications of a card, and the load under way.
+/// The load files and the applications of a card, the load under way, the numbers of the keysets with which
+/// the card was issued, and the keysets that were put.
 ///
 /// GlobalPlatform Card Specification 2.1.1, 6.
 #[derive(Drop)]
@@ -29,6 +31,8 @@ pub struct Registry {
     load_files: Vec<LoadFile>,
     applications: Vec<Application>,
     load: Option<Load>,
+    issued: Vec<u8>,
+    put: KeysetList,
     alloc: Global,
 }
 
@@ -37,11 +41,11 @@ impl Model for Registry {
 
     ghost Value = { State };
 
-    ghost view = { λ r. record { load_files = r.load_files.items; applications = r.applications.items; load = r.load } };
+    ghost view = { λ r. record { load_files = r.load_files.items; applications = r.applications.items; load = r.load; issued = r.issued.items; put = r.put } };
 }
 
 impl Registry {
-    /// A registry that holds nothing.
+    /// A registry that holds nothing, of a card that was issued with no keyset.
     pub fn fresh(alloc: Global) -> Registry
         ensures { result ≡ command.fresh_state }
     {
@@ -49,8 +53,43 @@ impl Registry {
             load_files: Vec::new(alloc),
             applications: Vec::new(alloc),
             load: None,
+            issued: Vec::new(alloc),
+            put: KeysetList::new(alloc),
             alloc,
         }
+    }
+
+    /// A registry that holds nothing, of a card that was issued with keysets of these numbers.
+    pub fn issued(alloc: Global, kvns: &[u8]) -> Result<Registry, Memory>
+        ensures { IfOk result (λ registry. registry ≡ command.issued_state kvns.now) }
+    {
+        let issued = Vec::from_slice(alloc, kvns)?;
+        Ok(Registry {
+            load_files: Vec::new(alloc),
+            applications: Vec::new(alloc),
+            load: None,
+            issued,
+            put: KeysetList::new(alloc),
+            alloc,
+        })
+    }
+
+    /// Whether the card was issued with a keyset of this number.
+    pub fn is_issued(&self, kvn: u8) -> bool
+        ensures { result ≡ is_issued self.now kvn }
+    {
+        self.issued.iter().any(|issued| *issued == kvn)
+    }
+
+    /// The keyset that was put with this number.
+    pub fn put_keyset(&self, kvn: u8) -> Option<&KeysetFacts>
+        ensures { option_copied result ≡ put_of self.now kvn }
+    {
+        self.put
+            .as_slice()
+            .iter()
+            .find(|keyset| keyset.0 == kvn)
+            .map(|keyset| &keyset.1)
     }
 
     /// INSTALL: [for load] (P1 02), [for install] (04), [for install and make selectable] (0C), [for make
@@ -106,6 +145,7 @@ impl Registry {
         requires { length octets.now ≡ p3 }
         ensures answer { IfOk result (λ reply. answered self.new reply ≡ command.delete_object self.old p1 p2 p3 octets.now) }
         ensures err { OnErr result (self.new ≡ self.old) }
+        ensures memory { IsOk result }
     {
         match deleted_aid(p1, p2, octets) {
             Ok(aid) => Ok(self.delete(p2, &aid)),
@@ -119,6 +159,7 @@ impl Registry {
         requires { length octets.now ≡ p3 }
         ensures answer { IfOk result (λ reply. answered self.new reply ≡ command.set_status self.old p1 p2 p3 octets.now) }
         ensures err { OnErr result (self.new ≡ self.old) }
+        ensures memory { IsOk result }
     {
         match self.relocked(p1, p2, octets) {
             Ok(new) => {
@@ -134,10 +175,38 @@ impl Registry {
         requires { length octets.now ≡ p3 }
         ensures answer { IfOk result (λ reply. answered self.new reply ≡ command.get_status self.old p1 p2 p3 octets.now) }
         ensures err { OnErr result (self.new ≡ self.old) }
+        ensures memory { IsOk result }
     {
         match self.status(p1, p2, octets) {
             Ok(out) => Ok(Reply::done(out)),
             Err(refusal) => Ok(Reply::refused(refusal)),
+        }
+    }
+
+    /// PUT KEY: puts the keyset of the number P2. GlobalPlatform Card Specification 2.1.1, 9.8; its data
+    /// field, and that a keyset once put stays as it is, are this card's own.
+    #[tactic(auto, using(crate::proofs::Keysets::none_found))]
+    pub fn put_key(&mut self, p1: u8, p2: u8, p3: u8, octets: &[u8]) -> Result<Reply, Memory>
+        requires { length octets.now ≡ p3 }
+        ensures answer { IfOk result (λ reply. answered self.new reply ≡ command.put_key self.old p1 p2 p3 octets.now) }
+        ensures err { OnErr result (self.new ≡ self.old) }
+    {
+        if !(p1 == 0 && p2 >= KVN_FIRST && p2 <= KVN_LAST) {
+            return Ok(Reply::refused(Refusal::WrongParameters));
+        }
+        let keyset = match keyset_of(octets) {
+            Some(keyset) => keyset,
+            None => return Ok(Reply::refused(Refusal::WrongData)),
+        };
+        if self.is_issued(p2) {
+            return Ok(Reply::refused(Refusal::ConditionsNotMet));
+        }
+        match self.put_keyset(p2) {
+            Some(before) => Ok(reply_to_same(are_same(before, &keyset))),
+            None => {
+                self.put.push(p2, keyset)?;
+                Ok(Reply::done(ArrayVec::new()))
+            }
         }
     }
 
@@ -304,7 +373,7 @@ impl Registry {
 
     /// Whether there is room for so many octets more.
     fn has_room(&self, len: usize) -> bool
-        ensures { result ≡ nat_le (room_of self.now + len) LOAD_FILES_ROOM }
+        ensures { result ≡ nat_le (room_of self.now + len) 65536 }
     {
         let taken = total(&self.load_files).saturating_add(self.octets_under_way() as u64);
         taken.saturating_add(len as u64) <= u64::from(LOAD_FILES_ROOM)
@@ -320,7 +389,7 @@ impl Registry {
 
     /// Adds a block to the load under way.
     fn take_block(&mut self, block: &[u8]) -> Result<(), Memory>
-        requires { IfSome self.old.load (λ load. load.count < LOAD_BLOCKS) }
+        requires { IfSome self.old.load (λ load. load.count < 256) }
         ensures ok { IfOk result (λ _. self.new ≡ command.with_block_taken self.old block.now) }
         ensures err { OnErr result (self.new ≡ self.old) }
     {
@@ -425,7 +494,7 @@ impl Registry {
 
     /// The entries that P1 asks for, of AIDs that begin so.
     fn entries(&self, p1: u8, prefix: &[u8]) -> Out
-        ensures { result.items ≡ fitting ANSWER_ROOM (command.listed self.now p1 prefix.now) }
+        ensures { result.items ≡ fitting 256 (command.listed self.now p1 prefix.now) }
     {
         if p1 == 0x40 {
             of_applications(&self.applications, prefix)
@@ -434,6 +503,18 @@ impl Registry {
         } else {
             ArrayVec::new()
         }
+    }
+}
+
+/// The reply to PUT KEY of a number with which a keyset was put before: with the same data or with others.
+fn reply_to_same(same: bool) -> Reply
+    ensures word { result.sw ≡ (if same then 0x9000 else 0x6985) }
+    ensures nothing { result.out.items ≡ [] }
+{
+    if same {
+        Reply::done(ArrayVec::new())
+    } else {
+        Reply::refused(Refusal::ConditionsNotMet)
     }
 }
 

@@ -16,7 +16,7 @@ pub(crate) type Out = ArrayVec<u8, 256>;
 ///
 /// GlobalPlatform Card Specification 2.1.1, 9.4.3.
 pub(crate) fn of_applications(applications: &[Application], prefix: &[u8]) -> Out
-    ensures { result.items ≡ fitting ANSWER_ROOM (application_entries prefix.now applications.now) }
+    ensures { result.items ≡ fitting 256 (application_entries prefix.now applications.now) }
 {
     let mut out = ArrayVec::new();
     for application in applications {
@@ -38,7 +38,7 @@ pub(crate) fn of_applications(applications: &[Application], prefix: &[u8]) -> Ou
 ///
 /// GlobalPlatform Card Specification 2.1.1, 9.4.3.
 pub(crate) fn of_load_files(files: &[LoadFile], prefix: &[u8]) -> Out
-    ensures { result.items ≡ fitting ANSWER_ROOM (load_file_entries prefix.now files.now) }
+    ensures { result.items ≡ fitting 256 (load_file_entries prefix.now files.now) }
 {
     let mut out = ArrayVec::new();
     for file in files {
@@ -51,7 +51,7 @@ pub(crate) fn of_load_files(files: &[LoadFile], prefix: &[u8]) -> Out
 
 /// Adds an entry, if it fits whole.
 fn add(out: &mut Out, aid: &Aid, state: u8, privileges: u8) -> bool
-    ensures fits { result ≡ nat_le (length (entry_of aid.now state privileges)) (ANSWER_ROOM - length out.old.items) }
+    ensures fits { result ≡ nat_le (length (entry_of aid.now state privileges)) (256 - length out.old.items) }
     ensures items { out.new.items ≡ (if result then out.old.items ++ entry_of aid.now state privileges else out.old.items) }
 {
     let aid = aid.as_slice();

@@ -9,7 +9,6 @@ use Rattle.std.specs.FinMap as map
 use Rattle.file_records.specs.declared.file.File.{File}
 use Rattle.file_records.specs.File.{size_of}
 use Rattle.card_files.specs.State.{Tree, total_of, room_of}
-use Rattle.card_files.specs.declared.limits.TheConstants.{FILES, FILES_ROOM}
 use Rattle.card_files.proofs.TreeLemmas.{by_path, tree_of, get-tree_of}
 use Rattle.card_files.proofs.EntriesLemmas.{entries-tree_of, len-tree_of}
 
@@ -53,8 +52,8 @@ held-removed old new files path is entries =
     omega (arith, moved, sums, size)
 
 -- the tests of the room for one more file
-pub room-test : (es : List (List ℕ × File)) (files : Tree) (count taken size : ℕ) → tree_of es ≡ files → IsStrictlySortedBy by_path (keys_of es) → count ≡ length es → taken ≡ held es → (nat_lt count FILES && nat_le (taken + size) FILES_ROOM) ≡ (nat_lt (map.len files) FILES && nat_le (room_of files + size) FILES_ROOM)
+pub room-test : (es : List (List ℕ × File)) (files : Tree) (count taken size : ℕ) → tree_of es ≡ files → IsStrictlySortedBy by_path (keys_of es) → count ≡ length es → taken ≡ held es → (nat_lt count 256 && nat_le (taken + size) 32768) ≡ (nat_lt (map.len files) 256 && nat_le (room_of files + size) 32768)
 room-test es files count taken size is h e kept =
     let len : count ≡ map.len files = e ∙ sym (len-tree_of es h) ∙ ap (λ (t : Tree). map.len t) is in
     let room : taken ≡ room_of files = kept ∙ sym (room-tree_of es h) ∙ ap room_of is in
-    ap (λ n. nat_lt n FILES && nat_le (taken + size) FILES_ROOM) len ∙ ap (λ n. nat_lt (map.len files) FILES && nat_le (n + size) FILES_ROOM) room
+    ap (λ n. nat_lt n 256 && nat_le (taken + size) 32768) len ∙ ap (λ n. nat_lt (map.len files) 256 && nat_le (n + size) 32768) room

@@ -19,7 +19,6 @@ use Rattle.card_files.specs.declared.kind.Kind.TheVariants as Kinds
 use Rattle.card_files.specs.declared.kind.NewFile.{NewFile}
 use Rattle.card_files.specs.Path.{id_of, above, child_of, ids_of, word_at}
 use Rattle.card_files.specs.State.{Tree, State, is_remote_at, file_in, folder_in, ef_in, room_of, with_selected, changed_at, changed_giving}
-use Rattle.card_files.specs.declared.limits.TheConstants.{FILES_ROOM, FILES, FOLDERS_DEEP, RECORDS, MF}
 
 -- P1 and P2 are these
 abbrev pub are : ℕ → ℕ → ℕ → ℕ → Result (Unit {0}) Refusal
@@ -46,11 +45,11 @@ writing s path write = do
 
 -- SELECT, 11.1.1
 
--- the file of an identifier, seen from the current folder: the MF, a file in the folder, the folder that
+-- the file of an identifier, seen from the current folder: the MF (3F00), a file in the folder, the folder that
 -- it lies in, or a DF beside it, in this order. A folder's own identifier is none of these
 abbrev pub seen_from : State → ℕ → Option (List ℕ)
 seen_from s id =
-    if id == MF then Some []
+    if id == 0x3F00 then Some []
     else if is_some (file_in s.files s.folder id) then file_in s.files s.folder id
     else if id == id_of (above s.folder) then Some (above s.folder)
     else if id == id_of s.folder then None
@@ -162,15 +161,15 @@ contents_of (Kinds.Transparent size) = Transparent (replicate size 255)
 contents_of (Kinds.Linear width count) = Linear (record { width = width; rows = replicate count (replicate width 255) })
 contents_of (Kinds.Cyclic width count) = Cyclic (record { width = width; rows = replicate count (replicate width 0) })
 
--- a record EF can have records of this length and this size
+-- a record EF can have records of this length and this size: at most 254 records
 abbrev pub fit : ℕ → ℕ → Bool
-fit width size = nat_lt 0 width && nat_lt 0 size && size % width == 0 && nat_le (size / width) RECORDS
+fit width size = nat_lt 0 width && nat_lt 0 size && size % width == 0 && nat_le (size / width) 254
 
--- the kind of a new file in a folder that is `depth` deep below the MF: 1 a DF, 2 a transparent EF, 3 a
--- linear and 4 a cyclic one
+-- the kind of a new file in a folder that is `depth` deep below the MF: 1 a DF, at most three deep, 2 a
+-- transparent EF, 3 a linear and 4 a cyclic one
 abbrev pub kind_of : ℕ → ℕ → ℕ → ℕ → Option Kind
 kind_of depth kind width size =
-    if kind == 1 && width == 0 && size == 0 && nat_lt depth FOLDERS_DEEP then Some Kinds.Folder
+    if kind == 1 && width == 0 && size == 0 && nat_lt depth 3 then Some Kinds.Folder
     else if kind == 2 && width == 0 && nat_lt 0 size then Some (Kinds.Transparent size)
     else if kind == 3 && fit width size then Some (Kinds.Linear width (size / width))
     else if kind == 4 && fit width size then Some (Kinds.Cyclic width (size / width))
@@ -179,9 +178,10 @@ kind_of depth kind width size =
 -- an identifier is taken: it is that of the MF, of the current folder, of the one that it lies in, or of
 -- a file in it
 abbrev pub is_taken : State → ℕ → Bool
-is_taken s id = id == MF || id == id_of s.folder || id == id_of (above s.folder) || is_some (file_in s.files s.folder id)
+is_taken s id = id == 0x3F00 || id == id_of s.folder || id == id_of (above s.folder) || is_some (file_in s.files s.folder id)
 
--- a new file, which is active and remote, becomes selected
+-- a new file, which is active and remote, becomes selected; there are at most 256 files, the MF among them, and
+-- EFs have room for 32,768 octets
 abbrev pub with_new : State → List ℕ → Contents → State
 with_new s path contents =
     let file : File = record { remote = true; active = true; contents = contents } in
@@ -195,7 +195,7 @@ wanted s p1 p2 p3 octets = do
   only_if (not (is_taken s (word_at octets 1))) WrongData
   path ← ok_or (child_of s.folder (word_at octets 1)) WrongData
   kind ← ok_or (kind_of (length s.folder) (slice_index octets 0) (slice_index octets 3) (word_at octets 4)) WrongData
-  only_if (nat_lt (map.len s.files) FILES && nat_le (room_of s.files + word_at octets 4) FILES_ROOM) NoRoom
+  only_if (nat_lt (map.len s.files) 256 && nat_le (room_of s.files + word_at octets 4) 32768) NoRoom
   Ok (record { path = path; kind = kind })
 
 abbrev pub creating : State → ℕ → ℕ → ℕ → List ℕ → Result (State × List ℕ) Refusal

@@ -8,7 +8,6 @@ use Rattle.std.specs.Ordering.{nat_cmp}
 use Rattle.std.specs.Cmp.Lexicographic.{slice_cmp}
 use Rattle.std.specs.Option.{option_map_or}
 use Rattle.std.specs.FinMap as map
-use Rattle.card_files.specs.declared.limits.TheConstants.{PATH_LEN}
 use Rattle.card_files.specs.Path.{above, child_of}
 use Rattle.file_records.specs.declared.file.File.{File}
 use Rattle.file_records.specs.File.{is_folder, size_of, octets_held_by}
@@ -76,6 +75,6 @@ abbrev pub changed_giving : Tree → List ℕ → (File → Result (File × List
 changed_giving files path change =
     ok_or (map.get files path) NoCurrentEf >>= (λ file. change file >>= (λ new. Ok (map.insert files path new.0, new.1)))
 
--- the octets of the transparent EF at the end of a path from the MF
+-- the octets of the transparent EF at the end of a path from the MF; no file lies more than four deep
 abbrev pub octets_at : Tree → List ℕ → Option (List ℕ)
-octets_at files path = if nat_le (length path) PATH_LEN then option_and_then octets_held_by (map.get files path) else None
+octets_at files path = if nat_le (length path) 4 then option_and_then octets_held_by (map.get files path) else None

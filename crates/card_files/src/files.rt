@@ -1,13 +1,12 @@
 //! The files of a card, and what is selected.
 
-ghost use Rattle.std.specs.Prelude.{◌≡◌, ◌+◌, ◌*◌, ◌^◌, ◌<◌, ◌≤◌, ◌≢◌, ◌++◌, ◌==◌, if◌then◌else◌, length, slice_index, [], None, option_copied, OnErr, IfOk, IfSome};
+ghost use Rattle.std.specs.Prelude.{◌≡◌, ◌+◌, ◌*◌, ◌^◌, ◌<◌, ◌≤◌, ◌≢◌, ◌++◌, ◌==◌, if◌then◌else◌, length, slice_index, [], None, option_copied, OnErr, IfOk, IfSome, IsOk};
 ghost use Rattle.apdu_codec.specs.Reply.{answered};
 ghost use Rattle.card_files.specs.Path.{word_at, ids_of};
 ghost use Rattle.card_files.specs.Replies.{Replies};
 ghost use Rattle.card_files.specs.Commands as command;
 ghost use Rattle.card_files.specs.Kind.{HasOctets};
 ghost use Rattle.card_files.specs.State.{room_of};
-ghost use Rattle.card_files.specs.declared.limits.TheConstants.{FILES_ROOM};
 ghost use Rattle.file_records.specs.File.{size_in};
 ghost use Rattle.std.specs.FinMap as map;
 ghost use Rattle.file_records.specs.Made.{Gives, MakesAndGives};
@@ -93,6 +92,7 @@ impl Files {
         requires { length octets.now ≡ p3 }
         ensures answer { IfOk result (λ reply. answered self.new reply ≡ command.select self.old p1 p2 p3 octets.now) }
         ensures err { OnErr result (self.new ≡ self.old) }
+        ensures memory { IsOk result }
     {
         Ok(reply_to(self.selecting(p1, p2, p3, octets)))
     }
@@ -102,6 +102,7 @@ impl Files {
         requires { length octets.now ≡ 0 }
         ensures answer { IfOk result (λ reply. answered self.new reply ≡ command.read_binary self.old p1 p2 p3 octets.now) }
         ensures err { OnErr result (self.new ≡ self.old) }
+        ensures memory { IsOk result }
     {
         Ok(reply_to(self.reading_binary(p1, p2, p3)))
     }
@@ -111,6 +112,7 @@ impl Files {
         requires { length octets.now ≡ p3 }
         ensures answer { IfOk result (λ reply. answered self.new reply ≡ command.update_binary self.old p1 p2 p3 octets.now) }
         ensures err { OnErr result (self.new ≡ self.old) }
+        ensures memory { IsOk result }
     {
         Ok(reply_to(self.updating_binary(p1, p2, octets)))
     }
@@ -120,6 +122,7 @@ impl Files {
         requires { length octets.now ≡ 0 }
         ensures answer { IfOk result (λ reply. answered self.new reply ≡ command.read_record self.old p1 p2 p3 octets.now) }
         ensures err { OnErr result (self.new ≡ self.old) }
+        ensures memory { IsOk result }
     {
         Ok(reply_to(self.reading_record(p1, p2, p3)))
     }
@@ -129,6 +132,7 @@ impl Files {
         requires { length octets.now ≡ p3 }
         ensures answer { IfOk result (λ reply. answered self.new reply ≡ command.update_record self.old p1 p2 p3 octets.now) }
         ensures err { OnErr result (self.new ≡ self.old) }
+        ensures memory { IsOk result }
     {
         Ok(reply_to(self.updating_record(p1, p2, octets)))
     }
@@ -138,6 +142,7 @@ impl Files {
         requires { length octets.now ≡ p3 }
         ensures answer { IfOk result (λ reply. answered self.new reply ≡ command.search_record self.old p1 p2 p3 octets.now) }
         ensures err { OnErr result (self.new ≡ self.old) }
+        ensures memory { IsOk result }
     {
         Ok(reply_to(self.searching_record(p1, p2, octets)))
     }
@@ -147,6 +152,7 @@ impl Files {
         requires { length octets.now ≡ p3 }
         ensures answer { IfOk result (λ reply. answered self.new reply ≡ command.increase self.old p1 p2 p3 octets.now) }
         ensures err { OnErr result (self.new ≡ self.old) }
+        ensures memory { IsOk result }
     {
         Ok(reply_to(self.increasing(p1, p2, octets)))
     }
@@ -156,6 +162,7 @@ impl Files {
         requires { length octets.now ≡ p3 }
         ensures answer { IfOk result (λ reply. answered self.new reply ≡ command.deactivate self.old p1 p2 p3 octets.now) }
         ensures err { OnErr result (self.new ≡ self.old) }
+        ensures memory { IsOk result }
     {
         Ok(reply_to(self.marking(false, p1, p2, octets)))
     }
@@ -165,6 +172,7 @@ impl Files {
         requires { length octets.now ≡ p3 }
         ensures answer { IfOk result (λ reply. answered self.new reply ≡ command.activate self.old p1 p2 p3 octets.now) }
         ensures err { OnErr result (self.new ≡ self.old) }
+        ensures memory { IsOk result }
     {
         Ok(reply_to(self.marking(true, p1, p2, octets)))
     }
@@ -189,6 +197,7 @@ impl Files {
         requires { length octets.now ≡ p3 }
         ensures answer { IfOk result (λ reply. answered self.new reply ≡ command.delete self.old p1 p2 p3 octets.now) }
         ensures err { OnErr result (self.new ≡ self.old) }
+        ensures memory { IsOk result }
     {
         Ok(reply_to(self.deleting(p1, p2, octets)))
     }
@@ -198,7 +207,7 @@ impl Files {
         ensures wanted { result ≡ command.wanted self.now p1 p2 (length octets.now) octets.now }
         ensures free { IfOk result (λ new. map.get self.now.files new.path ≡ None) }
         ensures some { IfOk result (λ new. HasOctets new.kind) }
-        ensures room { IfOk result (λ new. room_of self.now.files + size_in (command.contents_of new.kind) ≤ FILES_ROOM) }
+        ensures room { IfOk result (λ new. room_of self.now.files + size_in (command.contents_of new.kind) ≤ 32768) }
     {
         if !(p1 == 0 && p2 == 0) {
             return Err(Refusal::WrongParameters);
@@ -240,7 +249,7 @@ impl Files {
     fn add(&mut self, new: NewFile) -> Result<(), Memory>
         requires free { map.get self.old.files new.path ≡ None }
         requires some { HasOctets new.kind }
-        requires room { room_of self.old.files + size_in (command.contents_of new.kind) ≤ FILES_ROOM }
+        requires room { room_of self.old.files + size_in (command.contents_of new.kind) ≤ 32768 }
         ensures ok { IfOk result (λ _. self.new ≡ command.with_new self.old new.path (command.contents_of new.kind)) }
         ensures err { OnErr result (self.new ≡ self.old) }
     {

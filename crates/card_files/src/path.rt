@@ -53,7 +53,7 @@ impl Path {
 
     /// The path with these identifiers; none, where no file lies so deep.
     pub fn of(ids: &[u16]) -> Option<Path>
-        ensures { result ≡ (if nat_le (length ids.now) PATH_LEN then Some ids.now else None) }
+        ensures { result ≡ (if nat_le (length ids.now) 4 then Some ids.now else None) }
     {
         if ids.len() > PATH_LEN {
             return None;

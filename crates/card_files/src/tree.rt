@@ -34,7 +34,6 @@ impl Model for Tree {
     ghost use Rattle.std.specs.Prelude.{◌≡◌, ◌≤◌};
     ghost use Rattle.std.specs.BTreeMap.{values};
     ghost use Rattle.card_files.specs.State.{Tree, total_of};
-    ghost use Rattle.card_files.specs.declared.limits.TheConstants.{FILES_ROOM};
 
     ghost Value = { Tree };
 
@@ -42,7 +41,7 @@ impl Model for Tree {
 
     ghost view = { λ tree. map.from_entries tree.files.entries };
 
-    ghost invariant = { λ tree. (tree.taken ≡ total_of (values tree.files)) × (tree.taken ≤ FILES_ROOM) };
+    ghost invariant = { λ tree. (tree.taken ≡ total_of (values tree.files)) × (tree.taken ≤ 32768) };
 }
 
 impl Tree {
@@ -52,7 +51,7 @@ impl Tree {
 
     /// The files of a map, whose octets have room on a card.
     pub(crate) fn of(files: BTreeMap<Path, File>) -> Tree
-        requires { total_of (values files) ≤ FILES_ROOM }
+        requires { total_of (values files) ≤ 32768 }
         ensures { result ≡ map.from_entries files.entries }
     {
         let taken = total(&files);
@@ -69,7 +68,7 @@ impl Tree {
     /// Puts a file beside the others.
     pub(crate) fn insert(&mut self, path: Path, file: File) -> Result<(), Memory>
         requires free { map.get self.old path ≡ None }
-        requires room { room_of self.old + size_of file ≤ FILES_ROOM }
+        requires room { room_of self.old + size_of file ≤ 32768 }
         ensures ok { IfOk result (λ _. self.new ≡ map.insert self.old path file) }
         ensures err { OnErr result (self.new ≡ self.old) }
     {
@@ -81,7 +80,7 @@ impl Tree {
 
     /// Whether there is room for one more file of this size.
     pub(crate) fn has_room(&self, size: u16) -> bool
-        ensures { result ≡ (nat_lt (map.len self.now) FILES && nat_le (room_of self.now + size) FILES_ROOM) }
+        ensures { result ≡ (nat_lt (map.len self.now) 256 && nat_le (room_of self.now + size) 32768) }
     {
         fit(self.files.len(), self.taken + u64::from(size))
     }
@@ -273,7 +272,7 @@ impl Tree {
 
 /// Whether so many files have a new one beside them, and their octets with its have room.
 fn fit(count: usize, octets: u64) -> bool
-    ensures { result ≡ (nat_lt count FILES && nat_le octets FILES_ROOM) }
+    ensures { result ≡ (nat_lt count 256 && nat_le octets 32768) }
 {
     count < FILES && octets <= u64::from(FILES_ROOM)
 }
@@ -293,7 +292,7 @@ fn size(file: &File) -> u64
 
 /// The octets that all EFs hold.
 fn total(files: &BTreeMap<Path, File>) -> u64
-    requires { total_of (values files.now) ≤ FILES_ROOM }
+    requires { total_of (values files.now) ≤ 32768 }
     ensures { result ≡ total_of (values files.now) }
 {
     let mut total = 0;

@@ -6,7 +6,7 @@ use Rattle.apdu_codec.specs.Reply.{Answer}
 use Rattle.applet_registry.specs.State.{State}
 use Rattle.applet_registry.specs.Commands as command
 use Rattle.script_engine.specs.declared.applet_command.AppletCommand.{AppletCommand}
-use Rattle.script_engine.specs.declared.applet_command.AppletCommand.TheVariants.{Install, Load, DeleteObject, SetStatus, GetStatus}
+use Rattle.script_engine.specs.declared.applet_command.AppletCommand.TheVariants.{Install, Load, DeleteObject, SetStatus, GetStatus, PutKey}
 
 -- the command of an instruction
 abbrev pub applet_command_of : ℕ → Option AppletCommand
@@ -16,6 +16,7 @@ applet_command_of ins =
     else if ins == 0xE4 then Some DeleteObject
     else if ins == 0xF0 then Some SetStatus
     else if ins == 0xF2 then Some GetStatus
+    else if ins == 0xD8 then Some PutKey
     else None
 
 -- the class of all of them
@@ -34,3 +35,11 @@ applet_command Load = command.load
 applet_command DeleteObject = command.delete_object
 applet_command SetStatus = command.set_status
 applet_command GetStatus = command.get_status
+applet_command PutKey = command.put_key
+
+-- it may want memory: it begins an application, a load file or a keyset
+abbrev pub wants_memory : AppletCommand → Bool
+wants_memory Install = true
+wants_memory Load = true
+wants_memory PutKey = true
+wants_memory _ = false

@@ -53,3 +53,8 @@ file_command Deactivate = command.deactivate
 file_command Activate = command.activate
 file_command Create = command.create
 file_command Delete = command.delete
+
+-- it may want memory: it makes a file
+abbrev pub wants_memory : FileCommand → Bool
+wants_memory Create = true
+wants_memory _ = false

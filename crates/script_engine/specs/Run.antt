@@ -1,6 +1,5 @@
 -- A whole script on a card. ETSI TS 102 226, 5.2.1.
 use Rattle.std.specs.Prelude.{◌≡◌, ℕ, zero, suc, ◌==◌, if◌then◌else◌, Option, Some, None, List, [], length}
-use Rattle.apdu_codec.specs.declared.refusal.TheConstants.{DONE}
 use Rattle.apdu_codec.specs.Reply.{Answer}
 use Rattle.card_files.specs.Fresh as files
 use Rattle.applet_registry.specs.Commands as registry
@@ -8,9 +7,13 @@ use Rattle.script_engine.specs.declared.card.CardState.{CardState}
 use Rattle.script_engine.specs.declared.part.Part.{Part}
 use Rattle.script_engine.specs.Step.{script_step}
 
--- a new card: the files of a new card, and a registry that holds nothing
+-- a new card: the files of a new card, and a registry that holds nothing and knows the numbers of the keysets
+-- with which the card was issued
+abbrev pub issued_card : List ℕ → CardState
+issued_card kvns = record { files = files.fresh_state; registry = registry.issued_state kvns }
+
 abbrev pub fresh_card : CardState
-fresh_card = record { files = files.fresh_state; registry = registry.fresh_state }
+fresh_card = issued_card []
 
 -- the card at the start of a script: the MF is selected, and no EF; the registry is as it was, with the load
 -- under way
@@ -29,7 +32,7 @@ abbrev pub start : CardState → List ℕ → Progress
 start card script = record {
   count = 0;
   next = if length script == 0 then None else Some 0;
-  last = record { after = with_mf_selected card; sw = DONE; out = [] };
+  last = record { after = with_mf_selected card; sw = 0x9000; out = [] };
 }
 
 -- one command more, where the script hasn't ended

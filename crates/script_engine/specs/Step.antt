@@ -9,7 +9,6 @@ use Rattle.apdu_codec.specs.declared.apdu.Next.{Next}
 use Rattle.apdu_codec.specs.declared.apdu.Next.TheVariants as Nexts
 use Rattle.apdu_codec.specs.declared.refusal.Refusal.{Refusal}
 use Rattle.apdu_codec.specs.declared.refusal.Refusal.TheVariants.{WrongLength, ConditionsNotMet, UnknownInstruction, UnknownClass}
-use Rattle.apdu_codec.specs.declared.refusal.TheConstants.{DONE}
 use Rattle.apdu_codec.specs.Refusal.{status_word_of}
 use Rattle.apdu_codec.specs.Apdu.{next_of}
 use Rattle.apdu_codec.specs.Reply.{Answer}
@@ -80,7 +79,7 @@ data_of script apdu = take apdu.len (drop apdu.from script)
 -- where a script goes on that answered so, and whose next command would begin at `next`: it ends behind its
 -- last command, and at the first status word other than 9000
 abbrev pub goes_on : List ℕ → ℕ → ℕ → Option ℕ
-goes_on script sw next = if sw == DONE && nat_lt next (length script) then Some next else None
+goes_on script sw next = if sw == 0x9000 && nat_lt next (length script) then Some next else None
 
 -- what stands in a script is run: the answer, and where the next command begins. A rest that is no whole
 -- command counts as one, is answered 6700, and ends the script

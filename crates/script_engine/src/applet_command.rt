@@ -1,18 +1,19 @@
 //! The table of applet commands.
 
-ghost use Rattle.std.specs.Prelude.{◌≡◌, ℕ, OnErr, IfOk, IfSome, length};
+ghost use Rattle.std.specs.Prelude.{◌≡◌, ℕ, true, OnErr, IfOk, IfSome, length};
 ghost use Rattle.apdu_codec.specs.Apdu.{data_len_of};
 ghost use Rattle.apdu_codec.specs.Reply.{answered};
-ghost use Rattle.script_engine.specs.AppletCommand.{applet_command_of, is_output, applet_command};
+ghost use Rattle.script_engine.specs.AppletCommand.{applet_command_of, is_output, applet_command, wants_memory};
 
 use apdu_codec::Reply;
+use apdu_codec::instruction::GET_STATUS;
 use applet_registry::Registry;
 use ota_core::Memory;
 
 /// The class octet of each applet command. GlobalPlatform Card Specification 2.1.1, 9.1.2.
 pub const APPLET_CLASS: u8 = 0x80;
 
-/// A command on the load files and the applications of the card.
+/// A command on the load files, the applications and the keysets of the card.
 #[derive(Clone, Copy, Debug, PartialEq, Eq)]
 pub enum AppletCommand {
     /// INSTALL. GlobalPlatform Card Specification 2.1.1, 9.5.
@@ -25,6 +26,8 @@ pub enum AppletCommand {
     SetStatus,
     /// GET STATUS. GlobalPlatform Card Specification 2.1.1, 9.4.
     GetStatus,
+    /// PUT KEY. GlobalPlatform Card Specification 2.1.1, 9.8.
+    PutKey,
 }
 
 impl AppletCommand {
@@ -38,7 +41,8 @@ impl AppletCommand {
             0xE8 => Some(AppletCommand::Load),
             0xE4 => Some(AppletCommand::DeleteObject),
             0xF0 => Some(AppletCommand::SetStatus),
-            0xF2 => Some(AppletCommand::GetStatus),
+            GET_STATUS => Some(AppletCommand::GetStatus),
+            0xD8 => Some(AppletCommand::PutKey),
             _ => None,
         }
     }
@@ -62,6 +66,7 @@ impl AppletCommand {
         requires { length octets.now ≡ p3 }
         ensures answer { IfOk result (λ reply. answered registry.new reply ≡ applet_command self registry.old p1 p2 p3 octets.now) }
         ensures err { OnErr result (registry.new ≡ registry.old) }
+        ensures memory { OnErr result (wants_memory self ≡ true) }
     {
         match self {
             AppletCommand::Install => registry.install(p1, p2, p3, octets),
@@ -69,6 +74,7 @@ impl AppletCommand {
             AppletCommand::DeleteObject => registry.delete_object(p1, p2, p3, octets),
             AppletCommand::SetStatus => registry.set_status(p1, p2, p3, octets),
             AppletCommand::GetStatus => registry.get_status(p1, p2, p3, octets),
+            AppletCommand::PutKey => registry.put_key(p1, p2, p3, octets),
         }
     }
 }

@@ -1,10 +1,12 @@
 //! What a card holds, and scripts on it.
 
-ghost use Rattle.std.specs.Prelude.{◌≡◌, ◌+◌, ◌^◌, ◌<◌, ◌≤◌, ◌==◌, if◌then◌else◌, Some, None, length, IfOk, IfSome, OnErr};
+ghost use Rattle.std.specs.Prelude.{◌≡◌, ℕ, List, ◌+◌, ◌^◌, ◌<◌, ◌≤◌, ◌==◌, if◌then◌else◌, Some, None, length, option_copied, IfOk, IfSome, OnErr};
 ghost use Rattle.apdu_codec.specs.Apdu.{data_len_of};
 ghost use Rattle.apdu_codec.specs.Reply.{answered};
+ghost use Rattle.apdu_codec.specs.Script.{HasCommands, IsBehind};
 ghost use Rattle.script_engine.specs.AppletCommand.{applet_command_of};
 ghost use Rattle.script_engine.specs.FileCommand.{file_command_of};
+ghost use Rattle.script_engine.specs.Run.{runs};
 ghost use Rattle.script_engine.specs.Step.{applet_step, command_step, data_of, file_step, goes_on, refusal_before, script_step, LeavesTheOther};
 
 use crate::applet_command::{APPLET_CLASS, AppletCommand};
@@ -16,7 +18,7 @@ use apdu_codec::{Apdu, DONE, Next, Refusal, Reply, next_apdu};
 use applet_registry::Registry;
 use arrayvec::ArrayVec;
 use card_files::Files;
-use ota_core::Memory;
+use ota_core::{KeysetFacts, Memory};
 use std::alloc::Global;
 
 /// What a card holds: its files with what is selected, and its registry of load files and applications.
@@ -27,17 +29,23 @@ pub struct CardState {
 }
 
 impl CardState {
-    ghost use Rattle.script_engine.specs.Run.{fresh_card, with_mf_selected, HasRun, HasBegun};
+    ghost use Rattle.applet_registry.specs.State.{is_issued, put_of};
+    ghost use Rattle.script_engine.specs.Run.{issued_card, fresh_card, with_mf_selected, HasRun, HasBegun};
 
-    /// A new card, with the MF selected and nothing registered.
+    /// A new card, with the MF selected and nothing registered, which was issued with no keyset.
     pub fn fresh(alloc: Global) -> Result<CardState, Memory>
         ensures { IfOk result (λ card. card ≡ fresh_card) }
     {
+        CardState::issued(alloc, &[])
+    }
+
+    /// A new card, with the MF selected and nothing registered, which was issued with keysets of these numbers.
+    pub fn issued(alloc: Global, kvns: &[u8]) -> Result<CardState, Memory>
+        ensures { IfOk result (λ card. card ≡ issued_card kvns.now) }
+    {
         let files = Files::fresh(alloc)?;
-        Ok(CardState {
-            files,
-            registry: Registry::fresh(alloc),
-        })
+        let registry = Registry::issued(alloc, kvns)?;
+        Ok(CardState { files, registry })
     }
 
     /// The files.
@@ -52,6 +60,20 @@ impl CardState {
         ensures { result.now ≡ self.now.registry }
     {
         &self.registry
+    }
+
+    /// Whether the card was issued with a keyset of this number.
+    pub fn is_issued(&self, kvn: u8) -> bool
+        ensures { result ≡ is_issued self.now.registry kvn }
+    {
+        self.registry.is_issued(kvn)
+    }
+
+    /// The keyset that PUT KEY has put with this number.
+    pub fn put_keyset(&self, kvn: u8) -> Option<&KeysetFacts>
+        ensures { option_copied result ≡ put_of self.now.registry kvn }
+    {
+        self.registry.put_keyset(kvn)
     }
 
     /// Begins a script: selects the MF, and no EF. A load under way goes on.
@@ -70,6 +92,8 @@ impl CardState {
         requires fits { length script.now < 2 ^ 32 }
         ensures step { IfOk result (λ step. (answered self.new step.reply, step.next) ≡ script_step self.old part script.now at) }
         ensures forward { IfOk result (λ step. IfSome step.next (λ next. (at < next) × (next < length script.now))) }
+        ensures next { IfOk result (λ step. IfSome step.next (IsBehind script.now at)) }
+        ensures short { IfOk result (λ step. length step.reply.out.items ≤ 256) }
         ensures apart { LeavesTheOther part self.old self.new }
         ensures err { OnErr result (self.new ≡ self.old) }
     {
@@ -95,6 +119,8 @@ impl CardState {
     pub fn run_script(&mut self, part: Part, script: &[u8]) -> Result<Ran, Memory>
         requires { length script.now < 2 ^ 32 }
         ensures ran { IfOk result (λ ran. HasRun self.old part script.now ran.count (answered self.new ran.reply)) }
+        ensures within { IfOk result (λ ran. (count : ℕ) → HasCommands script.now 0 count → ran.count ≤ count) }
+        ensures short { IfOk result (λ ran. length ran.reply.out.items ≤ 256) }
         ensures memory { OnErr result (HasBegun self.old part script.now self.new) }
         ensures apart { LeavesTheOther part (with_mf_selected self.old) self.new }
     {
@@ -176,6 +202,12 @@ impl CardState {
         }
     }
 }
+
+/// A run ends within the number of the script's commands, whatever the card holds.
+pub fn runs_end()
+    ensures ended { (card : CardState) (part : Part) (script : List ℕ) (count : ℕ) → HasCommands script 0 count → (runs card part script count).next ≡ None }
+    ensures few { (card : CardState) (part : Part) (script : List ℕ) (count n : ℕ) → HasCommands script 0 count → (runs card part script n).count ≤ count }
+{}
 
 /// Why a command is refused before what it tests itself: for its class, or as one that may stand only last
 /// and doesn't.

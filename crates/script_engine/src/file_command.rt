@@ -1,11 +1,12 @@
 //! The table of file commands.
 
-ghost use Rattle.std.specs.Prelude.{◌≡◌, ℕ, OnErr, IfOk, IfSome, length};
+ghost use Rattle.std.specs.Prelude.{◌≡◌, ℕ, true, OnErr, IfOk, IfSome, length};
 ghost use Rattle.apdu_codec.specs.Apdu.{data_len_of};
 ghost use Rattle.apdu_codec.specs.Reply.{answered};
-ghost use Rattle.script_engine.specs.FileCommand.{file_command_of, class_of, is_output, data_len, file_command};
+ghost use Rattle.script_engine.specs.FileCommand.{file_command_of, class_of, is_output, data_len, file_command, wants_memory};
 
 use apdu_codec::Reply;
+use apdu_codec::instruction::{READ_BINARY, READ_RECORD, SEARCH_RECORD};
 use card_files::Files;
 use ota_core::Memory;
 
@@ -44,11 +45,11 @@ impl FileCommand {
     {
         match ins {
             0xA4 => Some(FileCommand::Select),
-            0xB0 => Some(FileCommand::ReadBinary),
+            READ_BINARY => Some(FileCommand::ReadBinary),
             0xD6 => Some(FileCommand::UpdateBinary),
-            0xB2 => Some(FileCommand::ReadRecord),
+            READ_RECORD => Some(FileCommand::ReadRecord),
             0xDC => Some(FileCommand::UpdateRecord),
-            0xA2 => Some(FileCommand::SearchRecord),
+            SEARCH_RECORD => Some(FileCommand::SearchRecord),
             0x32 => Some(FileCommand::Increase),
             0x04 => Some(FileCommand::Deactivate),
             0x44 => Some(FileCommand::Activate),
@@ -90,6 +91,7 @@ impl FileCommand {
         requires { length octets.now ≡ data_len self p3 }
         ensures answer { IfOk result (λ reply. answered files.new reply ≡ file_command self files.old p1 p2 p3 octets.now) }
         ensures err { OnErr result (files.new ≡ files.old) }
+        ensures memory { OnErr result (wants_memory self ≡ true) }
     {
         match self {
             FileCommand::Select => files.select(p1, p2, p3, octets),

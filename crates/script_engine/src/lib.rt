@@ -10,7 +10,7 @@ mod part;
 mod ran;
 mod step;
 
-pub use card::CardState;
+pub use card::{CardState, runs_end};
 pub use part::Part;
 pub use ran::Ran;
 pub use step::Step;

@@ -9,5 +9,5 @@ returns c =
     let inside = c.self.inside in
     let stays : Application → Bool = λ a. not (bytes_eq a.aid c.args.aid.now) in
     let kept : c.retain.new.self.items ≡ filter stays inside.applications.items = filter_same _ stays _ (λ x b f' t. search rules) _ _ c.retain.ensures.filtered in
-    let P : List Application → State = λ left. record { load_files = inside.load_files.items; applications = left; load = inside.load } in
+    let P : List Application → State = λ left. record { load_files = inside.load_files.items; applications = left; load = inside.load; issued = inside.issued.items; put = inside.put } in
     ap P kept ∙ ap (λ (s : State). without_application s c.args.aid.now) c.self.view_is

@@ -13,5 +13,5 @@ returns c =
     let stays : Application → Bool = λ a. not (bytes_eq a.load_file aid) in
     let files : c.retain.new.self.items ≡ filter file_stays inside.load_files.items = filter_same _ file_stays _ (λ x b f' t. search rules) _ _ c.retain.ensures.filtered in
     let kept : c.retain-2.new.self.items ≡ filter stays inside.applications.items = filter_same _ stays _ (λ x b f' t. search rules) _ _ c.retain-2.ensures.filtered in
-    let P : List LoadFile → List Application → State = λ fs left. record { load_files = fs; applications = left; load = inside.load } in
+    let P : List LoadFile → List Application → State = λ fs left. record { load_files = fs; applications = left; load = inside.load; issued = inside.issued.items; put = inside.put } in
     ap (λ fs. P fs c.retain-2.new.self.items) files ∙ ap (P (filter file_stays inside.load_files.items)) kept ∙ ap (λ (s : State). without_load_file s aid) c.self.view_is

@@ -10,6 +10,7 @@ abbrev pub invariant-loop-next : goal.invariant-loop-next
 invariant-loop-next l = record {
   ran : runs l.fn.self l.part l.script l.ran.count ≡ record { count = l.ran.count; next = l.next; last = answered l.self l.ran.reply };
   place : IfSome l.next (λ at. (l.ran.count ≤ at) × (at < length l.script));
+  short : length l.ran.reply.out.items ≤ 256;
   apart : LeavesTheOther l.part (with_mf_selected l.fn.self) l.self;
 }
 
