@@ -10,6 +10,8 @@ mod heads;
 mod histories_read;
 mod journals;
 mod laws;
+mod marks;
+mod versions;
 
 pub use formats::format;
 pub use journals::Journal;
