@@ -1,5 +1,5 @@
 -- What an opening makes of a disk: octets behind the gate are cut off, and a journal of version 1 gets the mark of version 2.
-use Rattle.std.specs.Prelude.{◌≡◌, ◌⊎◌, ℕ, ◌+◌, ◌<◌, ◌≤◌, List, [], ◌∷◌, ◌++◌, take, Result, Ok, Err}
+use Rattle.std.specs.Prelude.{◌≡◌, ◌⊎◌, ℕ, ◌+◌, ◌<◌, ◌≤◌, Bool, true, false, List, [], ◌∷◌, ◌++◌, take, Result, Ok, Err}
 use Rattle.disk_model.specs.Disk.{Meaning, Tells, image_now}
 use Rattle.gate_log.specs.declared.log_errors.LogErr.{LogErr}
 use Rattle.gate_log.specs.declared.log_errors.LogErr.TheVariants as log_err
@@ -71,3 +71,8 @@ IsGoingOn told old new Second len now = (new ≡ old) × (now ≡ len)
 abbrev pub IsFault : LogErr → Type 0
 IsFault (log_err.DiskFault fault) = Unit {0}
 IsFault error = ⊥
+
+-- a log has no room for a batch
+abbrev pub is_full : LogErr → Bool
+is_full (log_err.Full size need) = true
+is_full error = false

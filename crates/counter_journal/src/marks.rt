@@ -8,7 +8,7 @@ ghost use Rattle.gate_log.specs.Answers.{LogCause};
 ghost use Rattle.gate_log.specs.Opening.{IsOpenLog};
 ghost use Rattle.counter_journal.specs.declared.versions.Version.TheVariants.{First};
 ghost use Rattle.counter_journal.specs.EntryOctets.{MARK};
-ghost use Rattle.counter_journal.specs.JournalOpening.{IsGoingOn, IsFault};
+ghost use Rattle.counter_journal.specs.JournalOpening.{IsGoingOn, IsFault, is_full};
 
 use crate::histories_read::MARK;
 use crate::versions::Version;
@@ -62,7 +62,20 @@ fn add_mark<D: DiskCalls>(disk: &mut D, log: Log, batch: &mut Batch) -> Result<L
     batch.clear();
     match appended {
         Ok(()) => Ok(log),
-        Err(LogErr::Full { .. }) => Ok(log),
-        Err(error) => Err(error),
+        Err(error) => {
+            if is_full(error) {
+                return Ok(log);
+            }
+            Err(error)
+        }
+    }
+}
+
+fn is_full(error: LogErr) -> bool
+    ensures { result ≡ is_full error }
+{
+    match error {
+        LogErr::Full { .. } => true,
+        _ => false,
     }
 }

@@ -1,40 +1,45 @@
-use Rattle.std.proofs.Common.{◌≡◌, ◌⊎◌, List, ℕ, Err, subst, sym}
-use Rattle.std.proofs.lemmas.Result.{err_from_is_err_and}
-use Rattle.disk_model.specs.Disk.{DiskRun, image_now}
-use Rattle.gate_log.specs.Reading.{parts_of}
-use Rattle.gate_log.specs.Opening.{OpensAlike}
+use Rattle.std.proofs.Common.{rules, ◌≡◌, ◌⊎◌, ◌+◌, ◌*◌, ◌^◌, ◌<◌, ◌≤◌, [], ◌∷◌, ◌++◌, ℕ, List, All, None, Err, length, reverse, take, IfOk, IfErr, OnOk, OnErr, ◌-◌, ◌/◌, ◌%◌, Bool, true, false, nat_eq, nat_lt, slice_index_or, slice_set, bit_and, bit_or, Fits, w8, w32, w64, Bor, MutBor}
+use Rattle.disk_model.specs.Disk.{Tells, image_now, DiskRun, Only}
+use Rattle.gate_log.specs.declared.log_errors.LogErr.TheVariants as log_err
+use Rattle.gate_log.specs.Reading.{parts_of, OpensTo}
+use Rattle.gate_log.specs.Reading.Reading.{Opened}
+use Rattle.gate_log.specs.Answers.{LogCause, UnlessFault, IsNotFull, IsWantOrFault}
+use Rattle.gate_log.specs.Opening.{IsOpenLog, AppendTicks, need_of}
+use Rattle.ota_core.specs.History.{IsLegal, broken_batch}
+use Rattle.counter_journal.specs.declared.versions.Version.TheVariants.{First}
+use Rattle.counter_journal.specs.EntryOctets.{MARK}
+use Rattle.counter_journal.specs.EntryRanges.{IsSized, IsEntry, IsOfLane, IsEntryOf, IsHistory}
 use Rattle.counter_journal.specs.Journal.{journal_head}
-use Rattle.counter_journal.specs.HistoryReading.{PartsAnswer}
-use Rattle.counter_journal.proofs.OpeningLaws.{journal_refused, opened_journal, opening_run, still_tells, unless_damage}
+use Rattle.counter_journal.specs.HistoryReading.{PartsAnswer, is_damage}
+use Rattle.counter_journal.specs.JournalOpening.{IsBeforeOrOpened, IsOpenedTo, IsCutAtMost, IsGoingOn}
+use Rattle.counter_journal.specs.JournalReading.{parts_for, Holds, OpeningAnswer, IsReady, IsSameJournal, AddAnswer, UnlessWanting, IsBeforeCalls}
 use Rattle.counter_journal.proofs.journals.Journal.open.Goals as goal
 
-pub returns-in_err-history-in-Ok-clause-moments : goal.returns-in_err-history-in-Ok-clause-moments
-returns-in_err-history-in-Ok-clause-moments g c = λ tells.
-    opening_run g.D.DiskCalls.told c.args.disk.now c.open.new.disk c.read_history.new.disk c.head_of.result (journal_head c.args.lane c.args.lanes) c.head_of.ensures
-    (c.open.ensures.moments tells) (c.read_history.ensures.moments (still_tells g.D.DiskCalls.told c.args.disk.now c.open.new.disk c.open.ensures.tells tells))
+-- src/journals.rt:89:28
+pub returns-in_err-past-in-Ok-clause-moments : goal.returns-in_err-past-in-Ok-clause-moments
+returns-in_err-past-in-Ok-clause-moments g c = ?
 
+-- src/journals.rt:94:21
 pub returns-then-not-is_damage-clause-moments : goal.returns-then-not-is_damage-clause-moments
-returns-then-not-is_damage-clause-moments g c = λ tells.
-    subst (λ (head : List ℕ). DiskRun g.D.DiskCalls.told c.args.disk.now c.open.new.disk (λ image. image_now g.D.DiskCalls.told c.args.disk.now image ⊎ OpensAlike head (g.D.DiskCalls.told.seen c.args.disk.now) image))
-    c.head_of.ensures (c.open.ensures.moments tells)
+returns-then-not-is_damage-clause-moments g c = ?
 
+-- src/journals.rt:97:17
 pub returns-in_err-read_history-in-Err-clause-answer :
     goal.returns-in_err-read_history-in-Err-clause-answer
-returns-in_err-read_history-in-Err-clause-answer g c = λ tells.
-    let p = err_from_is_err_and c.from_residual-in_err-read_history-in-Err.result c.from_residual-in_err-read_history-in-Err.ensures.1 in
-    let same : g.D.DiskCalls.told.seen c.open.new.disk ≡ g.D.DiskCalls.told.seen c.args.disk.now = unless_damage (Unit {0}) c.in-Err.error (g.D.DiskCalls.told.seen c.open.new.disk ≡ g.D.DiskCalls.told.seen c.args.disk.now) (sym c.if-not-is_damage.ensures) (c.in-Err.ensures.same tells) in
-    rw (p.1, p.2)
-    (journal_refused c.args.lane c.args.lanes (parts_of (journal_head c.args.lane c.args.lanes) (g.D.DiskCalls.told.seen c.args.disk.now)) c.in_err-read_history-in-Err.field-0.0
-    (subst (λ (octets : List ℕ). PartsAnswer c.args.lane c.args.lanes (parts_of (journal_head c.args.lane c.args.lanes) octets) (Err c.in_err-read_history-in-Err.field-0.0)) same
-    (c.in_err-read_history-in-Err.ensures.answer (still_tells g.D.DiskCalls.told c.args.disk.now c.open.new.disk c.open.ensures.tells tells))))
+returns-in_err-read_history-in-Err-clause-answer g c = ?
 
-pub returns-in_ok-history-in-Ok-clause-answer : goal.returns-in_ok-history-in-Ok-clause-answer
-returns-in_ok-history-in-Ok-clause-answer g c = λ tells.
-    opened_journal g.D.DiskCalls.told c.args.disk.now c.open.new.disk c.args.lane c.args.lanes c.head_of.result c.in-Ok.log c.in_ok-history-in-Ok.history c.journal_of.result c.head_of.ensures
-    (c.in-Ok.ensures.answer tells) (c.in_ok-history-in-Ok.ensures.answer (still_tells g.D.DiskCalls.told c.args.disk.now c.open.new.disk c.open.ensures.tells tells))
-    c.journal_of.ensures.made c.journal_of.ensures.err
+-- src/journals.rt:69:5
+pub returns-in_ok-past-in-Ok-clause-answer : goal.returns-in_ok-past-in-Ok-clause-answer
+returns-in_ok-past-in-Ok-clause-answer g c = ?
 
-pub returns-in_ok-history-in-Ok-clause-moments : goal.returns-in_ok-history-in-Ok-clause-moments
-returns-in_ok-history-in-Ok-clause-moments g c = λ tells.
-    opening_run g.D.DiskCalls.told c.args.disk.now c.open.new.disk c.read_history.new.disk c.head_of.result (journal_head c.args.lane c.args.lanes) c.head_of.ensures
-    (c.open.ensures.moments tells) (c.read_history.ensures.moments (still_tells g.D.DiskCalls.told c.args.disk.now c.open.new.disk c.open.ensures.tells tells))
+-- src/journals.rt:69:5
+pub returns-in_ok-past-in-Ok-clause-ready : goal.returns-in_ok-past-in-Ok-clause-ready
+returns-in_ok-past-in-Ok-clause-ready g c = ?
+
+-- src/journals.rt:69:5
+pub returns-in_ok-past-in-Ok-clause-content : goal.returns-in_ok-past-in-Ok-clause-content
+returns-in_ok-past-in-Ok-clause-content g c = ?
+
+-- src/journals.rt:69:5
+pub returns-in_ok-past-in-Ok-clause-moments : goal.returns-in_ok-past-in-Ok-clause-moments
+returns-in_ok-past-in-Ok-clause-moments g c = ?
