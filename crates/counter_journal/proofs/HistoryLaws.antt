@@ -69,6 +69,9 @@ second_mark lane lanes entries part is = record {
   no_entry = λ entry fits of spelled. absurd (no_mark Second entry (spelled ∙ is));
 }
 
+same_past : (old new : Past) → new.history ≡ old.history → new.version ≡ old.version → new ≡ old
+same_past old new history version = λ i. record { history = history i; version = version i }
+
 taken_by : (lane lanes : ℕ) (old new : Past) (part : List ℕ) (version : Version) (taken : Bool) → old.version ≡ version → part ≡ MARK → taken ≡ is_first version
     → new.history ≡ old.history → new.version ≡ Second → IsTaken lane lanes old part taken new
 taken_by lane lanes old new part First true was is said history second =
@@ -76,7 +79,10 @@ taken_by lane lanes old new part First true was is said history second =
 taken_by lane lanes old new part First false was is said history second = absurd (not_both (sym said))
 taken_by lane lanes old new part Second true was is said history second = absurd (not_both said)
 taken_by lane lanes old new part Second false was is said history second =
-    subst (λ (v : Version). IsBad lane lanes old.history.entries v part) (sym was) (second_mark lane lanes old.history.entries part is)
+    (
+      subst (λ (v : Version). IsBad lane lanes old.history.entries v part) (sym was) (second_mark lane lanes old.history.entries part is),
+      same_past old new history (second ∙ sym was),
+    )
 
 -- the mark is taken where none stands before it
 pub mark_taken : (lane lanes : ℕ) (old new : Past) (part : List ℕ) (taken : Bool) → is_mark part ≡ true → IsMarkTaken old taken new → IsTaken lane lanes old part taken new

@@ -10,6 +10,7 @@ use Rattle.gate_log.specs.Log.{four}
 use Rattle.gate_log.specs.Opening.{AppendAnswer, IsOpenLog, need_of}
 use Rattle.gate_log.specs.Reading.{parts_of, OpensTo}
 use Rattle.gate_log.specs.Reading.Reading.{Opened}
+use Rattle.counter_journal.specs.declared.versions.Version.{Version}
 use Rattle.counter_journal.specs.declared.versions.Version.TheVariants.{First, Second}
 use Rattle.counter_journal.specs.EntryOctets.{MARK}
 use Rattle.counter_journal.specs.JournalOpening.{MARK_BATCH, IsMarkAdded, IsGoingOn, IsFault, is_full}
@@ -82,3 +83,15 @@ full_alone len need log_err.NotALog answer full = absurd answer
 full_alone len need (log_err.OtherHead rest) answer full = absurd answer
 full_alone len need (log_err.Damaged number) answer full = absurd answer
 full_alone len need (log_err.Full size needed) answer full = (answer.0, ap (λ (n : ℕ). log_err.Full n needed) answer.1 ∙ ap (log_err.Full len) answer.2)
+
+-- the same, where version 1 is what the parts are of
+pub first_run : {D B C : Type 0} (told : Meaning D B C) (old new : D) (head : List ℕ) (before : List (List ℕ)) (version : Version) → version ≡ First
+    → DiskRun told old new (λ image. OpensTo head before image ⊎ OpensTo head (before ++ MARK ∷ []) image)
+    → DiskRun told old new (λ image. OpensTo head before image ⊎ ((version ≡ First) × OpensTo head (before ++ MARK ∷ []) image))
+first_run told old new head before version first run =
+    weaker told old new (λ image. OpensTo head before image ⊎ OpensTo head (before ++ MARK ∷ []) image)
+    (λ image. OpensTo head before image ⊎ ((version ≡ First) × OpensTo head (before ++ MARK ∷ []) image)) run at
+  where
+    at : (image : List ℕ) → OpensTo head before image ⊎ OpensTo head (before ++ MARK ∷ []) image → OpensTo head before image ⊎ ((version ≡ First) × OpensTo head (before ++ MARK ∷ []) image)
+    at image (inl so_far) = inl so_far
+    at image (inr marked) = inr (first, marked)

@@ -1,5 +1,6 @@
 -- Laws of an opening.
 use Rattle.std.proofs.Common.{◌≡◌, ◌⊎◌, ℕ, ◌+◌, ◌<◌, ◌≤◌, true, List, [], ◌∷◌, ◌++◌, length, take, Result, Ok, Err, refl, inl, inr, sym, ap, subst, ◌∙◌, arith}
+use Rattle.std.specs.Prelude.{IfOk, IfErr}
 use Rattle.disk_model.specs.Disk.{Meaning, Tells, DiskRun, image_now}
 use Rattle.disk_model.specs.Runs.{joined, weaker, left_now}
 use Rattle.gate_log.specs.declared.log_errors.LogErr.{LogErr}
@@ -18,7 +19,7 @@ use Rattle.counter_journal.specs.EntryRanges.{IsHistory}
 use Rattle.counter_journal.specs.Journal.{journal_head}
 use Rattle.counter_journal.specs.JournalLaws.{written_mark}
 use Rattle.counter_journal.specs.JournalOpening.{IsBeforeOrOpened, MARK_BATCH, IsLeft, IsOpenedTo, IsCutAtMost, IsGoingOn}
-use Rattle.counter_journal.specs.JournalReading.{AreWritten, Holds, ReadsTo, JournalValue, JournalRefuses, IsOpenedOf, IsReady}
+use Rattle.counter_journal.specs.JournalReading.{AreWritten, Holds, ReadsTo, JournalValue, JournalRefuses, IsOpenedOf, OpeningAnswer, IsReady}
 use Rattle.counter_journal.specs.HistoryReading.{HistoryAnswer, PartsAnswer, IsPast, is_damage}
 
 -- a refusal for another cause than damage
@@ -260,6 +261,22 @@ module _ {D B C : Type 0} (told : Meaning D B C) where
           opens = read.was;
           left = left_by past.version going;
         })
+
+    -- what the journal of the log is, where there was no want of memory and no fault
+    abbrev pub IsMadeOf : JournalValue → Type 0
+    IsMadeOf journal = (journal ≡ record { lane = lane; lanes = lanes; entries = past.history.entries; length = journal.length; room = 0 }) × IsGoingOn told mid new past.version len journal.length
+
+    pub answered : (result : Result JournalValue LogErr) → IfOk result IsMadeOf → IfErr result IsWantOrFault → OpeningAnswer lane lanes (told.seen old) result
+    answered (Ok journal) made want = opened_of journal made.0
+    answered (Err error) made want = wanting_refuses lane lanes (parts_of (journal_head lane lanes) (told.seen old)) error want
+
+    pub readied : (result : Result JournalValue LogErr) → Tells told mid → IfOk result IsMadeOf → IfOk result (IsReady told new)
+    readied (Ok journal) tells made = opened_ready journal made.0 tells made.1
+    readied (Err error) tells made = tt
+
+    pub lefted : (result : Result JournalValue LogErr) → Tells told mid → IfOk result IsMadeOf → IfOk result (IsOpenedTo (told.seen old) (told.seen new))
+    lefted (Ok journal) tells made = opened_to journal made.0 tells made.1
+    lefted (Err error) tells made = tt
 
   -- a refusal behind an opening of the log cuts off at most what lies behind its gate
   pub cut_alone : (old mid new : D) (lane lanes len : ℕ) (said : List ℕ) → said ≡ journal_head lane lanes → IsOpened said (told.seen old) (told.seen mid) len → told.seen new ≡ told.seen mid

@@ -44,12 +44,13 @@ abbrev pub is_mark : List ℕ → Bool
 is_mark (first ∷ second ∷ []) = (first == 0x06) && (second == 0x02)
 is_mark part = false
 
--- the part was taken, as an entry that may follow or as the mark where none stands before it, or it is bad
+-- The part was taken, as an entry that may follow or as the mark where none stands before it, or it is bad and nothing
+-- was taken.
 abbrev pub IsTaken : ℕ → ℕ → Past → List ℕ → Bool → Past → Type 0
 IsTaken lane lanes old part true new =
     (IsFirstMark old.version part × (new.history.entries ≡ old.history.entries) × (new.version ≡ Second))
     ⊎ ((entry : Entry) × IsNext lane lanes old.history.entries old.version part (Some entry) × (new.history.entries ≡ old.history.entries ++ entry ∷ []) × (new.version ≡ old.version))
-IsTaken lane lanes old part false new = IsBad lane lanes old.history.entries old.version part
+IsTaken lane lanes old part false new = IsBad lane lanes old.history.entries old.version part × (new ≡ old)
 
 -- version 2 begins, where it hadn't
 abbrev pub IsMarkTaken : Past → Bool → Past → Type 0

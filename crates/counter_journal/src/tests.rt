@@ -58,6 +58,9 @@ const CLOSE: &[u8] = &[
     0x05, 0x00, 0x00, 0x00, 0x00, 0x00, 0x00, 0x00, 0x00, 0x00, 0x00, 0x22, 0xC5, 0x01,
 ];
 
+/// The part that says that version 2 begins.
+const MARK: &[u8] = &[0x06, 0x02];
+
 /// Three commands of a file script.
 const SCRIPT: [u8; 22] = [
     0x00, 0xA4, 0x00, 0x00, 0x02, 0x7F, 0x10, 0x00, 0xA4, 0x00, 0x00, 0x02, 0x6F, 0x3A, 0x00, 0xD6,
@@ -81,7 +84,7 @@ fn keyset() -> KeysetId
     }
 }
 
-fn opened() -> Result<Entry, Fail>
+fn opened_at(moment: u64) -> Result<Entry, Fail>
     ensures sized { IfOk result IsSized }
     ensures of_lane { IfOk result (IsOfLane 0 1) }
 {
@@ -96,9 +99,17 @@ fn opened() -> Result<Entry, Fail>
     };
     Ok(Entry::Open {
         by: 0,
+        moment,
         keyset: keyset(),
         facts,
     })
+}
+
+fn opened() -> Result<Entry, Fail>
+    ensures sized { IfOk result IsSized }
+    ensures of_lane { IfOk result (IsOfLane 0 1) }
+{
+    opened_at(0)
 }
 
 /// The reservation of the counter and of the job of this number.
@@ -106,9 +117,20 @@ fn reserved(alloc: Global, number: u32) -> Result<Entry, Memory>
     ensures sized { IfOk result IsSized }
     ensures of_lane { IfOk result (IsOfLane 0 1) }
 {
+    named(alloc, number, 0, &[])
+}
+
+/// The same at this moment, in a campaign of this name.
+fn named(alloc: Global, number: u32, moment: u64, name: &[u8]) -> Result<Entry, Memory>
+    requires { length name.now ≤ 32 }
+    ensures sized { IfOk result IsSized }
+    ensures of_lane { IfOk result (IsOfLane 0 1) }
+{
+    let name = Octets::from_slice(alloc, name)?;
     let body = Octets::from_slice(alloc, &SCRIPT)?;
     Ok(Entry::Reserve {
         by: 1,
+        moment,
         keyset: keyset(),
         counter: Counter(u64::from(number)),
         job: JobId {
@@ -116,6 +138,7 @@ fn reserved(alloc: Global, number: u32) -> Result<Entry, Memory>
             job: number,
         },
         tar: Tar([0xB0, 0x00, 0x10]),
+        name,
         body,
     })
 }
@@ -127,6 +150,7 @@ fn done(alloc: Global) -> Result<Entry, Memory>
     let answer = Octets::from_slice(alloc, &[0x03, 0x69, 0x81])?;
     Ok(Entry::Done {
         by: 1,
+        moment: 0,
         keyset: keyset(),
         counter: Counter(1),
         answer,
@@ -139,6 +163,7 @@ fn refused() -> Entry
 {
     Entry::Refused {
         by: 1,
+        moment: 0,
         keyset: keyset(),
         counter: Counter(1),
         status: 0x09,
@@ -151,6 +176,7 @@ fn closed() -> Entry
 {
     Entry::Close {
         by: 0,
+        moment: 0,
         keyset: keyset(),
     }
 }
@@ -169,6 +195,22 @@ fn journal(alloc: Global, lane: u8, lanes: u8, parts: &[&[u8]]) -> Result<Vec<u8
     Ok(octets)
 }
 
+/// The octets of an entry in version 2, from those in version 1: the moment behind the key version number, and for a
+/// reservation the name behind the application.
+fn second(alloc: Global, part: &[u8], moment: &[u8; 8], name: &[u8]) -> Result<Vec<u8>, Fail> {
+    let mut octets = Vec::from_slice(alloc, &part[..14])?;
+    octets.extend_from_slice(moment)?;
+    if part[0] == 0x02 {
+        octets.extend_from_slice(&part[14..30])?;
+        octets.push(name.len() as u8)?;
+        octets.extend_from_slice(name)?;
+        octets.extend_from_slice(&part[30..])?;
+    } else {
+        octets.extend_from_slice(&part[14..])?;
+    }
+    Ok(octets)
+}
+
 /// The same with an open gate and a batch that runs past the end.
 fn broken(alloc: Global, lane: u8, lanes: u8, parts: &[&[u8]]) -> Result<Vec<u8>, Fail> {
     let mut octets = journal(alloc, lane, lanes, parts)?;
@@ -177,76 +219,69 @@ fn broken(alloc: Global, lane: u8, lanes: u8, parts: &[&[u8]]) -> Result<Vec<u8>
     Ok(octets)
 }
 
-fn are_same(one: &Entry, other: &Entry) -> bool {
+/// Whether what the two entries hold beside sender, moment and keyset is the same.
+fn have_same(one: &Entry, other: &Entry) -> bool {
     match one {
-        Entry::Open { by, keyset, facts } => match other {
-            Entry::Open {
-                by: b,
-                keyset: k,
-                facts: f,
-            } => *by == *b && *keyset == *k && *facts == *f,
+        Entry::Open { facts, .. } => match other {
+            Entry::Open { facts: f, .. } => *facts == *f,
             _ => false,
         },
         Entry::Reserve {
-            by,
-            keyset,
             counter,
             job,
             tar,
+            name,
             body,
+            ..
         } => match other {
             Entry::Reserve {
-                by: b,
-                keyset: k,
                 counter: c,
                 job: j,
                 tar: t,
+                name: n,
                 body: s,
+                ..
             } => {
-                *by == *b
-                    && *keyset == *k
-                    && *counter == *c
+                *counter == *c
                     && *job == *j
                     && *tar == *t
+                    && name.as_slice() == n.as_slice()
                     && body.as_slice() == s.as_slice()
             }
             _ => false,
         },
         Entry::Done {
-            by,
-            keyset,
-            counter,
-            answer,
+            counter, answer, ..
         } => match other {
             Entry::Done {
-                by: b,
-                keyset: k,
                 counter: c,
                 answer: a,
-            } => {
-                *by == *b && *keyset == *k && *counter == *c && answer.as_slice() == a.as_slice()
-            }
+                ..
+            } => *counter == *c && answer.as_slice() == a.as_slice(),
             _ => false,
         },
         Entry::Refused {
-            by,
-            keyset,
-            counter,
-            status,
+            counter, status, ..
         } => match other {
             Entry::Refused {
-                by: b,
-                keyset: k,
                 counter: c,
                 status: s,
-            } => *by == *b && *keyset == *k && *counter == *c && *status == *s,
+                ..
+            } => *counter == *c && *status == *s,
             _ => false,
         },
-        Entry::Close { by, keyset } => match other {
-            Entry::Close { by: b, keyset: k } => *by == *b && *keyset == *k,
+        Entry::Close { .. } => match other {
+            Entry::Close { .. } => true,
             _ => false,
         },
     }
+}
+
+fn are_same(one: &Entry, other: &Entry) -> bool {
+    one.by() == other.by()
+        && one.moment() == other.moment()
+        && one.keyset() == other.keyset()
+        && have_same(one, other)
 }
 
 /// Whether these entries are those.
