@@ -4,6 +4,7 @@ use Rattle.std.proofs.lemmas.List.{map-append, take_more}
 use Rattle.std.proofs.lemmas.List.Elements.{All-push}
 use Rattle.gate_log.specs.Batches.{BatchState, octets_in, octets_in-push}
 use Rattle.ota_core.specs.declared.entries.Entry.{Entry}
+use Rattle.counter_journal.specs.declared.versions.Version.TheVariants.{Second}
 use Rattle.counter_journal.specs.EntryOctets.{entry_octets}
 use Rattle.counter_journal.specs.EntryRanges.{IsEntry, LONGEST_ENTRY}
 use Rattle.counter_journal.specs.JournalReading.{parts_for}
@@ -23,7 +24,7 @@ has_room old batch entries count len put below parts octets short =
     (omega (arith, put.parts_room, below, parts), omega (arith, put.octets_room, put.sum, below, octets, short))
 
 pub put_more : (old batch new : BatchState) (entries : List Entry) (count : ℕ) (entry : Entry) (octets : List ℕ) → ArePut old batch entries count → count < length entries
-    → entry ≡ get_or entries count entry → octets ≡ entry_octets entry → length octets ≤ LONGEST_ENTRY → IsEntry entry
+    → entry ≡ get_or entries count entry → octets ≡ entry_octets Second entry → length octets ≤ LONGEST_ENTRY → IsEntry entry
     → 1 ≤ batch.parts_room → length octets ≤ batch.octets_room
     → new ≡ record { parts = batch.parts ++ octets ∷ []; parts_room = batch.parts_room - 1; octets_room = batch.octets_room - length octets }
     → ArePut old new entries (count + 1)
@@ -35,7 +36,7 @@ put_more old batch new entries count entry octets put below is spelled short fit
       parts =
           ap (λ (l : List (List ℕ)). l ++ octets ∷ []) put.parts
           ∙ ap (λ (o : List ℕ). parts_for (take count entries) ++ o ∷ []) spelled
-          ∙ sym (map-append entry_octets (take count entries) (entry ∷ []))
+          ∙ sym (map-append (entry_octets Second) (take count entries) (entry ∷ []))
           ∙ ap parts_for (sym more);
       parts_room = omega (arith, put.parts_room, some_room);
       octets_room = omega (arith, put.octets_room, sum, room);

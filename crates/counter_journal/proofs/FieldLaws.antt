@@ -12,10 +12,12 @@ use Rattle.ota_core.specs.declared.keysets.Mode.{Mode}
 use Rattle.ota_core.specs.declared.keysets.Mode.TheVariants.{Higher, Next}
 use Rattle.ota_core.specs.declared.keysets.KeysetFacts.{KeysetFacts}
 use Rattle.gate_log.specs.Log.{four}
-use Rattle.counter_journal.specs.EntryOctets.{five, eight, front_octets, mode_octet, flag_octet, key_octets, facts_octets, job_octets}
-use Rattle.counter_journal.specs.EntryRanges.{IsFront}
-use Rattle.counter_journal.specs.EntryReading.{◌>>=◌, only_if, octet_at, number_at, counter_at, is_kvn, keyset_at, Front, front_at, mode_of, flag_of, manner_at, key_at, keys_in, facts_in, job_at, tar_at}
-use Rattle.counter_journal.specs.EntriesAgain.{some_is, widened, keyset_of_numbers, keyset_octets, IsKeyset, front_of, manner_octets, AreFacts, IsJob}
+use Rattle.counter_journal.specs.declared.versions.Version.{Version}
+use Rattle.counter_journal.specs.declared.versions.Version.TheVariants.{First, Second}
+use Rattle.counter_journal.specs.EntryOctets.{five, eight, moment_octets, name_octets, front_octets, mode_octet, flag_octet, key_octets, facts_octets, job_octets}
+use Rattle.counter_journal.specs.EntryRanges.{LONGEST_NAME, IsFront}
+use Rattle.counter_journal.specs.EntryReading.{◌>>=◌, only_if, octet_at, number_at, counter_at, is_kvn, keyset_at, Front, front_at, mode_of, flag_of, manner_at, key_at, keys_in, facts_in, job_at, tar_at, moment_at, short_name_at, name_at, Purpose, purpose_at}
+use Rattle.counter_journal.specs.EntriesAgain.{some_is, widened, keyset_of_numbers, keyset_octets, IsKeyset, IsMoment, IsName, front_of, front_parts, purpose_of, manner_octets, AreFacts, IsJob}
 
 -- each is an octet
 abbrev pub IsBytes : List ℕ → Type 0
@@ -140,21 +142,36 @@ keyset_takes bytes keyset rest fits e =
     subst (λ (x : Keyset × List ℕ). Takes bytes (keyset_octets x.0) x.1 × IsKeyset x.0) g.1
     (whole, record { card_fits = t0.1; kvn_above = leb-true 1 b.0.0 range.0; kvn_below = leb-true b.0.0 15 range.1 })
 
-pub front_takes : (bytes : List ℕ) (front : Front) (rest : List ℕ) → IsBytes bytes → front_at bytes ≡ Some (front, rest)
-    → Takes bytes (front_octets front.kind front.by front.keyset) rest × IsFront front.by front.keyset
+abbrev IsTime : Version → ℕ → Type 0
+IsTime version moment = (moment < 2 ^ 64) × IsMoment version moment
+
+moment_takes : (version : Version) (bytes : List ℕ) (moment : ℕ) (rest : List ℕ) → IsBytes bytes → moment_at version bytes ≡ Some (moment, rest)
+    → Takes bytes (moment_octets version moment) rest × IsTime version moment
+moment_takes First bytes moment rest fits e =
+    subst (λ (x : ℕ × List ℕ). Takes bytes (moment_octets First x.0) x.1 × IsTime First x.0) (some_is (0, bytes) (moment, rest) e)
+    (record { parts = refl; rest_fits = fits }, (omega arith, refl))
+moment_takes Second bytes moment rest fits e = let t = eight_takes bytes moment rest fits e in (t.0, (t.1, tt))
+
+pub front_takes : (version : Version) (bytes : List ℕ) (front : Front) (rest : List ℕ) → IsBytes bytes → front_at version bytes ≡ Some (front, rest)
+    → Takes bytes (front_octets version front.kind front.by front.moment front.keyset) rest × IsFront front.by front.moment front.keyset × IsMoment version front.moment
 unfolding front_at four eight
-front_takes bytes front rest fits e =
-    let a = bind_some (octet_at bytes) (λ kind. number_at w32 kind.1 >>= λ by. keyset_at by.1 >>= λ keyset. Some (front_of kind.0 by.0 keyset.0, keyset.1)) (front, rest) e in
-    let b = bind_some (number_at w32 a.0.1) (λ by. keyset_at by.1 >>= λ keyset. Some (front_of a.0.0 by.0 keyset.0, keyset.1)) (front, rest) a.2 in
-    let c = bind_some (keyset_at b.0.1) (λ keyset. Some (front_of a.0.0 b.0.0 keyset.0, keyset.1)) (front, rest) b.2 in
+front_takes version bytes front rest fits e =
+    let a = bind_some (octet_at bytes) (λ kind. number_at w32 kind.1 >>= λ by. keyset_at by.1 >>= λ keyset. moment_at version keyset.1 >>= λ moment. Some (front_of kind.0 by.0 moment.0 keyset.0, moment.1)) (front, rest) e in
+    let b = bind_some (number_at w32 a.0.1) (λ by. keyset_at by.1 >>= λ keyset. moment_at version keyset.1 >>= λ moment. Some (front_of a.0.0 by.0 moment.0 keyset.0, moment.1)) (front, rest) a.2 in
+    let c = bind_some (keyset_at b.0.1) (λ keyset. moment_at version keyset.1 >>= λ moment. Some (front_of a.0.0 b.0.0 moment.0 keyset.0, moment.1)) (front, rest) b.2 in
+    let d = bind_some (moment_at version c.0.1) (λ moment. Some (front_of a.0.0 b.0.0 moment.0 c.0.0, moment.1)) (front, rest) c.2 in
     let t0 = octet_takes bytes a.0.0 a.0.1 fits a.1 in
     let t1 = four_takes a.0.1 b.0.0 b.0.1 t0.rest_fits b.1 in
     let t2 = keyset_takes b.0.1 c.0.0 c.0.1 t1.0.rest_fits c.1 in
-    let e12 = Takes-then a.0.1 (four b.0.0) b.0.1 (keyset_octets c.0.0) c.0.1 t1.0 t2.0 in
-    let e02 = Takes-then bytes (a.0.0 ∷ []) a.0.1 (four b.0.0 ++ keyset_octets c.0.0) c.0.1 t0 e12 in
-    let is : IsFront b.0.0 c.0.0 = record { by_fits = t1.1; card_fits = t2.1.card_fits; kvn_above = t2.1.kvn_above; kvn_below = t2.1.kvn_below } in
-    subst (λ (x : Front × List ℕ). Takes bytes (front_octets x.0.kind x.0.by x.0.keyset) x.1 × IsFront x.0.by x.0.keyset) (some_is (front_of a.0.0 b.0.0 c.0.0, c.0.1) (front, rest) c.2)
-    (e02, is)
+    let t3 = moment_takes version c.0.1 d.0.0 d.0.1 t2.0.rest_fits d.1 in
+    let whole : bytes ≡ front_octets version a.0.0 b.0.0 d.0.0 c.0.0 ++ d.0.1 =
+    t0.parts
+    ∙ ap (λ (l : List ℕ). a.0.0 ∷ l) (t1.0.parts ∙ ap (λ (l : List ℕ). four b.0.0 ++ l) (t2.0.parts ∙ ap (λ (l : List ℕ). keyset_octets c.0.0 ++ l) t3.0.parts))
+    ∙ sym (front_parts version a.0.0 b.0.0 d.0.0 c.0.0 d.0.1) in
+    let is : IsFront b.0.0 d.0.0 c.0.0 = record { by_fits = t1.1; moment_fits = t3.1.0; card_fits = t2.1.card_fits; kvn_above = t2.1.kvn_above; kvn_below = t2.1.kvn_below } in
+    subst (λ (x : Front × List ℕ). Takes bytes (front_octets version x.0.kind x.0.by x.0.moment x.0.keyset) x.1 × IsFront x.0.by x.0.moment x.0.keyset × IsMoment version x.0.moment)
+    (some_is (front_of a.0.0 b.0.0 d.0.0 c.0.0, d.0.1) (front, rest) d.2)
+    (record { parts = whole; rest_fits = t3.0.rest_fits }, is, t3.1.1)
 
 -- ---- what a keyset is opened with
 
@@ -253,3 +270,47 @@ tar_takes bytes tar rest fits e =
     let long : 3 ≤ length bytes = ltb-false _ _ g.0 in
     let len : length (take 3 bytes) ≡ 3 = omega (arith, long, length-take 3 bytes) in
     subst (λ (x : List ℕ × List ℕ). Takes bytes x.0 x.1 × (length x.0 ≡ 3)) g.1 (front_taken 3 bytes fits, len)
+
+-- the counter, the job and the application fit
+pub record ArePurpose (purpose : Purpose) : Type 0 where
+  pub counter_fits : purpose.counter < 2 ^ 40
+  pub job_fits : IsJob purpose.job
+  pub tar_long : length purpose.tar ≡ 3
+
+pub purpose_takes : (bytes : List ℕ) (purpose : Purpose) (rest : List ℕ) → IsBytes bytes → purpose_at bytes ≡ Some (purpose, rest)
+    → (bytes ≡ five purpose.counter ++ (job_octets purpose.job ++ (purpose.tar ++ rest))) × IsBytes rest × ArePurpose purpose
+unfolding purpose_at five
+purpose_takes bytes purpose rest fits e =
+    let a = bind_some (counter_at bytes) (λ counter. job_at counter.1 >>= λ job. tar_at job.1 >>= λ tar. Some (purpose_of counter.0 job.0 tar.0, tar.1)) (purpose, rest) e in
+    let b = bind_some (job_at a.0.1) (λ job. tar_at job.1 >>= λ tar. Some (purpose_of a.0.0 job.0 tar.0, tar.1)) (purpose, rest) a.2 in
+    let c = bind_some (tar_at b.0.1) (λ tar. Some (purpose_of a.0.0 b.0.0 tar.0, tar.1)) (purpose, rest) b.2 in
+    let t0 = counter_takes bytes a.0.0 a.0.1 fits a.1 in
+    let t1 = job_takes a.0.1 b.0.0 b.0.1 t0.0.rest_fits b.1 in
+    let t2 = tar_takes b.0.1 c.0.0 c.0.1 t1.0.rest_fits c.1 in
+    subst (λ (x : Purpose × List ℕ). (bytes ≡ five x.0.counter ++ (job_octets x.0.job ++ (x.0.tar ++ x.1))) × IsBytes x.1 × ArePurpose x.0)
+    (some_is (purpose_of a.0.0 b.0.0 c.0.0, c.0.1) (purpose, rest) c.2)
+    (
+      t0.0.parts ∙ ap (λ (l : List ℕ). five a.0.0 ++ l) (t1.0.parts ∙ ap (λ (l : List ℕ). job_octets b.0.0 ++ l) t2.0.parts),
+      t2.0.rest_fits,
+      record { counter_fits = t0.1; job_fits = t1.1; tar_long = t2.1 },
+    )
+
+short_name_takes : (bytes name rest : List ℕ) → IsBytes bytes → short_name_at bytes ≡ Some (name, rest) → Takes bytes (name_octets Second name) rest × (length name ≤ LONGEST_NAME)
+unfolding short_name_at
+short_name_takes [] name rest fits e = absurd cc
+short_name_takes (size ∷ bytes) name rest fits e =
+    let g = only_if_some (leb size LONGEST_NAME && leb size (length bytes)) (take size bytes, drop size bytes) (name, rest) e in
+    let tests = both_true (leb size LONGEST_NAME) (leb size (length bytes)) g.0 in
+    let within : size ≤ length bytes = leb-true size (length bytes) tests.1 in
+    let short : size ≤ LONGEST_NAME = leb-true size LONGEST_NAME tests.0 in
+    let len : length (take size bytes) ≡ size = omega (arith, within, length-take size bytes) in
+    let is : size ∷ bytes ≡ name_octets Second (take size bytes) ++ drop size bytes = ap (λ (n : ℕ). n ∷ bytes) (sym len) ∙ ap (λ (l : List ℕ). length (take size bytes) ∷ l) (sym (take-append-drop size bytes)) in
+    subst (λ (x : List ℕ × List ℕ). Takes (size ∷ bytes) (name_octets Second x.0) x.1 × (length x.0 ≤ LONGEST_NAME)) g.1
+    (record { parts = is; rest_fits = IsBytes-drop size bytes (IsBytes-rest size bytes fits) }, omega (arith, len, short))
+
+pub name_takes : (version : Version) (bytes name rest : List ℕ) → IsBytes bytes → name_at version bytes ≡ Some (name, rest)
+    → Takes bytes (name_octets version name) rest × (length name ≤ LONGEST_NAME) × IsName version name
+name_takes First bytes name rest fits e =
+    subst (λ (x : List ℕ × List ℕ). Takes bytes (name_octets First x.0) x.1 × (length x.0 ≤ LONGEST_NAME) × IsName First x.0) (some_is ([], bytes) (name, rest) e)
+    (record { parts = refl; rest_fits = fits }, omega arith, refl)
+name_takes Second bytes name rest fits e = let t = short_name_takes bytes name rest fits e in (t.0, t.1, tt)

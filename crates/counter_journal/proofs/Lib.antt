@@ -4,4 +4,5 @@ pub mod EntryLaws
 pub mod FieldLaws
 pub mod HistoryLaws
 pub mod MakingLaws
+pub mod MarkLaws
 pub mod OpeningLaws

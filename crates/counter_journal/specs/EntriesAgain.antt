@@ -7,6 +7,7 @@ use Rattle.std.proofs.lemmas.List.{take_at, drop_at, length-append, append-nil}
 use Rattle.std.proofs.lemmas.Nat.{from_be_bytes-to_be_bytes_4, from_be_bytes-to_be_bytes_8}
 use Rattle.ota_core.specs.KeyBytes.{is_key_length}
 use Rattle.ota_core.specs.Keyset.{Keyset}
+use Rattle.ota_core.specs.Entry.{moment_of}
 use Rattle.ota_core.specs.declared.jobs.JobId.{JobId}
 use Rattle.ota_core.specs.declared.keysets.Mode.{Mode}
 use Rattle.ota_core.specs.declared.keysets.Mode.TheVariants.{Higher, Next}
@@ -14,9 +15,11 @@ use Rattle.ota_core.specs.declared.keysets.KeysetFacts.{KeysetFacts}
 use Rattle.ota_core.specs.declared.entries.Entry.{Entry}
 use Rattle.ota_core.specs.declared.entries.Entry.TheVariants.{Open, Reserve, Done, Refused, Close}
 use Rattle.gate_log.specs.Log.{four}
-use Rattle.counter_journal.specs.EntryOctets.{five, eight, front_octets, mode_octet, flag_octet, key_octets, facts_octets, job_octets, entry_octets}
-use Rattle.counter_journal.specs.EntryRanges.{LONGEST_BODY, IsFront, IsEntry}
-use Rattle.counter_journal.specs.EntryReading.{number_at, counter_at, is_kvn, keyset_at, Front, front_at, mode_of, flag_of, manner_at, key_at, keys_in, facts_in, job_at, tar_at, is_body, open_in, reserve_in, done_in, refused_in, entry_behind, entry_in}
+use Rattle.counter_journal.specs.declared.versions.Version.{Version}
+use Rattle.counter_journal.specs.declared.versions.Version.TheVariants.{First, Second}
+use Rattle.counter_journal.specs.EntryOctets.{five, eight, moment_octets, name_octets, front_octets, mode_octet, flag_octet, key_octets, facts_octets, job_octets, entry_octets, name_of, IsOfVersion}
+use Rattle.counter_journal.specs.EntryRanges.{LONGEST_BODY, LONGEST_NAME, IsFront, IsEntry}
+use Rattle.counter_journal.specs.EntryReading.{number_at, counter_at, is_kvn, keyset_at, Front, front_at, mode_of, flag_of, manner_at, key_at, keys_in, facts_in, job_at, tar_at, moment_at, short_name_at, name_at, is_body, Purpose, purpose_at, open_in, reserve_in, done_in, refused_in, entry_behind, entry_in}
 
 abbrev pub some : {A : Type 0} → A → Option A
 some x = Some x
@@ -76,14 +79,63 @@ keyset_again keyset rest is =
     ap keyset_at (append_assoc (eight keyset.card.0) (keyset.kvn ∷ []) rest)
     ∙ rw (eight_again keyset.card.0 (keyset.kvn ∷ rest) is.card_fits, kvn_true keyset.kvn is.kvn_above is.kvn_below) refl
 
-abbrev pub front_of : ℕ → ℕ → Keyset → Front
-front_of kind by keyset = record { kind = kind; by = by; keyset = keyset }
+-- version 1 has the moment 0 alone
+abbrev pub IsMoment : Version → ℕ → Type 0
+IsMoment First moment = moment ≡ 0
+IsMoment Second moment = Unit {0}
 
-pub front_again : (kind by : ℕ) (keyset : Keyset) (rest : List ℕ) → IsFront by keyset → front_at (front_octets kind by keyset ++ rest) ≡ Some (front_of kind by keyset, rest)
+-- version 1 has the empty name alone
+abbrev pub IsName : Version → List ℕ → Type 0
+IsName First name = name ≡ []
+IsName Second name = Unit {0}
+
+pub has_moment : (version : Version) (entry : Entry) → IsOfVersion version entry → IsMoment version (moment_of entry)
+has_moment First entry is = is.0
+has_moment Second entry is = tt
+
+pub has_name : (version : Version) (entry : Entry) → IsOfVersion version entry → IsName version (name_of entry)
+has_name First entry is = is.1
+has_name Second entry is = tt
+
+pub is_of_version : (version : Version) (entry : Entry) → IsMoment version (moment_of entry) → IsName version (name_of entry) → IsOfVersion version entry
+is_of_version First entry moment name = (moment, name)
+is_of_version Second entry moment name = tt
+
+pub no_name : (version : Version) → IsName version []
+no_name First = refl
+no_name Second = tt
+
+moment_again : (version : Version) (moment : ℕ) (rest : List ℕ) → moment < 2 ^ 64 → IsMoment version moment → moment_at version (moment_octets version moment ++ rest) ≡ Some (moment, rest)
+moment_again First moment rest below is = ap (λ (m : ℕ). Some (m, rest)) (sym is)
+moment_again Second moment rest below is = eight_again moment rest below
+
+name_again : (version : Version) (name rest : List ℕ) → length name ≤ LONGEST_NAME → IsName version name → name_at version (name_octets version name ++ rest) ≡ Some (name, rest)
+unfolding short_name_at
+name_again First name rest short is = ap (λ (n : List ℕ). Some (n, rest)) (sym is)
+name_again Second name rest short is =
+    let within : leb (length name) (length (name ++ rest)) ≡ true = le-leb _ _ (omega (arith, length-append name rest)) in
+    rw (le-leb (length name) LONGEST_NAME short, within, take_at name rest (length name) refl, drop_at name rest (length name) refl) refl
+
+abbrev pub front_of : ℕ → ℕ → ℕ → Keyset → Front
+front_of kind by moment keyset = record { kind = kind; by = by; moment = moment; keyset = keyset }
+
+abbrev pub front_before : ℕ → ℕ → Keyset → List ℕ → List ℕ
+front_before kind by keyset rest = kind ∷ (four by ++ (keyset_octets keyset ++ rest))
+
+pub front_parts : (version : Version) (kind by moment : ℕ) (keyset : Keyset) (rest : List ℕ)
+    → front_octets version kind by moment keyset ++ rest ≡ front_before kind by keyset (moment_octets version moment ++ rest)
+front_parts version kind by moment keyset rest = simp append_assoc
+
+pub front_again : (version : Version) (kind by moment : ℕ) (keyset : Keyset) (rest : List ℕ) → IsFront by moment keyset → IsMoment version moment
+    → front_at version (front_octets version kind by moment keyset ++ rest) ≡ Some (front_of kind by moment keyset, rest)
 unfolding front_at four
-front_again kind by keyset rest is =
-    ap (λ (l : List ℕ). front_at (kind ∷ l)) (append_assoc (four by) (keyset_octets keyset) rest)
-    ∙ rw (four_again by (keyset_octets keyset ++ rest) is.by_fits, keyset_again keyset rest (record { card_fits = is.card_fits; kvn_above = is.kvn_above; kvn_below = is.kvn_below })) refl
+front_again version kind by moment keyset rest is early =
+    ap (front_at version) (front_parts version kind by moment keyset rest)
+    ∙ rw (
+      four_again by (keyset_octets keyset ++ (moment_octets version moment ++ rest)) is.by_fits,
+      keyset_again keyset (moment_octets version moment ++ rest) (record { card_fits = is.card_fits; kvn_above = is.kvn_above; kvn_below = is.kvn_below }),
+      moment_again version moment rest is.moment_fits early,
+    ) refl
 
 -- ---- what a keyset is opened with
 
@@ -146,42 +198,57 @@ tar_again tar rest len = rw (long_enough 3 tar rest len, take_at tar rest 3 len,
 
 -- ---- entries
 
+abbrev pub purpose_of : ℕ → JobId → List ℕ → Purpose
+purpose_of counter job tar = record { counter = counter; job = job; tar = tar }
+
+purpose_again : (counter : ℕ) (job : JobId) (tar rest : List ℕ) → counter < 2 ^ 40 → IsJob job → length tar ≡ 3
+    → purpose_at (five counter ++ (job_octets job ++ (tar ++ rest))) ≡ Some (purpose_of counter job tar, rest)
+unfolding purpose_at five
+purpose_again counter job tar rest counter_fits job_fits tar_long =
+    rw (counter_again counter (job_octets job ++ (tar ++ rest)) counter_fits, job_again job (tar ++ rest) job_fits, tar_again tar rest tar_long) refl
+
 pub three_parts : (a b c : List ℕ) → a ++ (b ++ c) ≡ a ++ b ++ c
 three_parts a b c = simp append_assoc
 
-pub five_parts : (a b c d e : List ℕ) → a ++ (b ++ (c ++ (d ++ e))) ≡ a ++ b ++ c ++ d ++ e
-five_parts a b c d e = simp append_assoc
+pub six_parts : (a b c d e f : List ℕ) → a ++ (b ++ (c ++ (d ++ (e ++ f)))) ≡ a ++ b ++ c ++ d ++ e ++ f
+six_parts a b c d e f = simp append_assoc
 
 body_true : (body : List ℕ) → 1 ≤ length body → length body ≤ LONGEST_BODY → is_body body ≡ true
 body_true body some_octets few = and_from (leb 1 (length body)) (leb (length body) LONGEST_BODY) (le-leb 1 (length body) some_octets) (le-leb (length body) LONGEST_BODY few)
 
-front_read : (kind by : ℕ) (keyset : Keyset) (rest : List ℕ) → IsFront by keyset → entry_in (front_octets kind by keyset ++ rest) ≡ entry_behind (front_of kind by keyset) rest
+front_read : (version : Version) (kind by moment : ℕ) (keyset : Keyset) (rest : List ℕ) → IsFront by moment keyset → IsMoment version moment
+    → entry_in version (front_octets version kind by moment keyset ++ rest) ≡ entry_behind version (front_of kind by moment keyset) rest
 unfolding entry_in
-front_read kind by keyset rest is = rw (front_again kind by keyset rest is) refl
+front_read version kind by moment keyset rest is early = rw (front_again version kind by moment keyset rest is early) refl
 
-behind_again : (entry : Entry) → IsEntry entry → entry_in (entry_octets entry) ≡ Some entry
+behind_again : (version : Version) (entry : Entry) → IsEntry entry → IsMoment version (moment_of entry) → IsName version (name_of entry) → entry_in version (entry_octets version entry) ≡ Some entry
 unfolding entry_behind open_in reserve_in done_in refused_in
-behind_again (Open by keyset facts) is =
-    front_read 0x01 by keyset (facts_octets facts) is.0
+behind_again version (Open by moment keyset facts) is early none =
+    front_read version 0x01 by moment keyset (facts_octets facts) is.0 early
     ∙ rw (facts_again facts (record { base_fits = is.1; kic_long = is.2; kid_long = is.3 })) refl
-behind_again (Reserve by keyset counter job tar body) is =
-    ap entry_in (sym (five_parts (front_octets 0x02 by keyset) (five counter) (job_octets job) tar body))
-    ∙ front_read 0x02 by keyset (five counter ++ (job_octets job ++ (tar ++ body))) is.0
-    ∙ rw (counter_again counter (job_octets job ++ (tar ++ body)) is.1, job_again job (tar ++ body) (record { campaign_fits = is.2; job_fits = is.3 }), tar_again tar body is.4, body_true body is.5 is.6) refl
-behind_again (Done by keyset counter answer) is =
-    ap entry_in (sym (three_parts (front_octets 0x03 by keyset) (five counter) answer))
-    ∙ front_read 0x03 by keyset (five counter ++ answer) is.0
+behind_again version (Reserve by moment keyset counter job tar name body) is early none =
+    ap (entry_in version) (sym (six_parts (front_octets version 0x02 by moment keyset) (five counter) (job_octets job) tar (name_octets version name) body))
+    ∙ front_read version 0x02 by moment keyset (five counter ++ (job_octets job ++ (tar ++ (name_octets version name ++ body)))) is.0 early
+    ∙ rw (
+      purpose_again counter job tar (name_octets version name ++ body) is.1 (record { campaign_fits = is.2; job_fits = is.3 }) is.4,
+      name_again version name body is.5 none,
+      body_true body is.6 is.7,
+    ) refl
+behind_again version (Done by moment keyset counter answer) is early none =
+    ap (entry_in version) (sym (three_parts (front_octets version 0x03 by moment keyset) (five counter) answer))
+    ∙ front_read version 0x03 by moment keyset (five counter ++ answer) is.0 early
     ∙ rw (counter_again counter answer is.1) refl
-behind_again (Refused by keyset counter status) is =
-    ap entry_in (sym (three_parts (front_octets 0x04 by keyset) (five counter) (status ∷ [])))
-    ∙ front_read 0x04 by keyset (five counter ++ status ∷ []) is.0
+behind_again version (Refused by moment keyset counter status) is early none =
+    ap (entry_in version) (sym (three_parts (front_octets version 0x04 by moment keyset) (five counter) (status ∷ [])))
+    ∙ front_read version 0x04 by moment keyset (five counter ++ status ∷ []) is.0 early
     ∙ rw (counter_again counter (status ∷ []) is.1) refl
-behind_again (Close by keyset) is =
-    ap entry_in (sym (append-nil (front_octets 0x05 by keyset))) ∙ front_read 0x05 by keyset [] is ∙ refl
+behind_again version (Close by moment keyset) is early none =
+    ap (entry_in version) (sym (append-nil (front_octets version 0x05 by moment keyset))) ∙ front_read version 0x05 by moment keyset [] is early ∙ refl
 
-pub entry_again : (entry : Entry) → IsEntry entry → entry_in (entry_octets entry) ≡ Some entry
-entry_again = behind_again
+pub entry_again : (version : Version) (entry : Entry) → IsEntry entry → IsOfVersion version entry → entry_in version (entry_octets version entry) ≡ Some entry
+entry_again version entry is of = behind_again version entry is (has_moment version entry of) (has_name version entry of)
 
 -- no two entries are spelled alike
-pub one_entry : (a b : Entry) → IsEntry a → IsEntry b → entry_octets a ≡ entry_octets b → a ≡ b
-one_entry a b is_a is_b same = some_is a b (sym (entry_again a is_a) ∙ ap entry_in same ∙ entry_again b is_b)
+pub one_entry : (version : Version) (a b : Entry) → IsEntry a → IsEntry b → IsOfVersion version a → IsOfVersion version b → entry_octets version a ≡ entry_octets version b → a ≡ b
+one_entry version a b is_a is_b of_a of_b same =
+    some_is a b (sym (entry_again version a is_a of_a) ∙ ap (entry_in version) same ∙ entry_again version b is_b of_b)

@@ -1,13 +1,14 @@
 -- How a journal is kept.
-use Rattle.std.specs.Prelude.{◌≡◌, ℕ, ◌*◌, ◌<◌, ◌≤◌, [], All}
+use Rattle.std.specs.Prelude.{◌≡◌, ℕ, ◌*◌, ◌<◌, ◌≤◌, []}
 use Rattle.ota_core.specs.HistoryValue.{HistoryValue}
 use Rattle.gate_log.specs.Batches.{BatchState}
-use Rattle.counter_journal.specs.EntryRanges.{IsEntryOf, LONGEST_ENTRY}
+use Rattle.counter_journal.specs.EntryRanges.{IsHistory, LONGEST_ENTRY}
 
--- the entries are of the lane, and between the calls the batch is empty and has room for so many of the longest entries
+-- the entries are a history of the lane, and between the calls the batch is empty and has room for so many of the
+-- longest entries
 pub record IsJournalKept (lane lanes : ℕ) (history : HistoryValue) (batch : BatchState) (batch_room entries_room : ℕ) : Type 0 where
   pub some_lanes : 0 < lanes
-  pub of_lane : All (IsEntryOf lane lanes) history.entries
+  pub of_lane : IsHistory lane lanes history.entries
   pub empty : batch.parts ≡ []
   pub parts_room : batch.parts_room ≡ batch_room
   pub octets_room : LONGEST_ENTRY * batch_room ≤ batch.octets_room

@@ -3,8 +3,11 @@ pub mod EntryRanges
 pub mod EntryReading
 pub mod Journal
 pub mod JournalReading
+pub mod JournalOpening
 pub mod JournalKept
 pub mod JournalMaking
 pub mod HistoryReading
 pub mod EntriesAgain
 pub mod JournalLaws
+pub mod Standing
+pub mod StandingLaws

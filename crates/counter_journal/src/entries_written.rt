@@ -1,48 +1,63 @@
-//! The octets of an entry.
+//! The octets of an entry in the second version.
 
 ghost use Rattle.std.specs.Prelude.{◌≡◌, ◌+◌, ◌^◌, ◌<◌, ◌≤◌, ℕ, IsTrue, [], ◌∷◌, ◌++◌, length};
 ghost use Rattle.gate_log.specs.Log.{four};
 ghost use Rattle.ota_core.specs.KeyBytes.{is_key_length};
-ghost use Rattle.counter_journal.specs.EntryOctets.{five, eight, front_octets, facts_octets, key_octets, mode_octet, job_octets, entry_octets};
-ghost use Rattle.counter_journal.specs.EntryRanges.{IsFront, IsEntry, IsSized, LONGEST_BODY, LONGEST_ENTRY};
+ghost use Rattle.counter_journal.specs.declared.versions.Version.TheVariants.{Second};
+ghost use Rattle.counter_journal.specs.EntryOctets.{five, eight, name_octets, front_octets, facts_octets, key_octets, mode_octet, job_octets, entry_octets};
+ghost use Rattle.counter_journal.specs.EntryRanges.{IsFront, IsEntry, IsSized, LONGEST_BODY, LONGEST_NAME, LONGEST_ENTRY};
 
 use arrayvec::ArrayVec;
 use ota_core::{Counter, Entry, JobId, KeyBytes, KeysetFacts, KeysetId, Mode, Tar};
 
-/// The octets of one entry. The longest is a reservation of a script of 4,096 octets.
-pub type EntryBuf = ArrayVec<u8, 4126>;
+/// The octets of one entry. The longest is a reservation of a script of 4,096 octets with a name of 32.
+pub type EntryBuf = ArrayVec<u8, 4167>;
 
 /// Writes the entry, and nothing else.
 pub fn write_entry(entry: &Entry, out: &mut EntryBuf)
     requires { IsSized entry.now }
-    ensures octets { out.new.items ≡ entry_octets entry.now }
+    ensures octets { out.new.items ≡ entry_octets Second entry.now }
     ensures short { length out.new.items ≤ LONGEST_ENTRY }
     ensures fits { IsEntry entry.now }
 {
     out.clear();
     match entry {
-        Entry::Open { by, keyset, facts } => put_open(out, *by, keyset, facts),
+        Entry::Open {
+            by,
+            moment,
+            keyset,
+            facts,
+        } => put_open(out, *by, *moment, keyset, facts),
         Entry::Reserve {
             by,
+            moment,
             keyset,
             counter,
             job,
             tar,
+            name,
             body,
-        } => put_reserve(out, *by, keyset, *counter, *job, tar, body.as_slice()),
+        } => {
+            put_front(out, 0x02, *by, *moment, keyset);
+            put_purpose(out, *counter, *job, tar);
+            put_name(out, name.as_slice());
+            put(out, body.as_slice());
+        }
         Entry::Done {
             by,
+            moment,
             keyset,
             counter,
             answer,
-        } => put_settlement(out, 0x03, *by, keyset, *counter, answer.as_slice()),
+        } => put_settlement(out, 0x03, *by, *moment, keyset, *counter, answer.as_slice()),
         Entry::Refused {
             by,
+            moment,
             keyset,
             counter,
             status,
-        } => put_settlement(out, 0x04, *by, keyset, *counter, &[*status]),
-        Entry::Close { by, keyset } => put_front(out, 0x05, *by, keyset),
+        } => put_settlement(out, 0x04, *by, *moment, keyset, *counter, &[*status]),
+        Entry::Close { by, moment, keyset } => put_front(out, 0x05, *by, *moment, keyset),
     }
 }
 
@@ -82,16 +97,17 @@ fn put_eight(out: &mut EntryBuf, number: u64)
     put(out, &number.to_be_bytes());
 }
 
-fn put_front(out: &mut EntryBuf, kind: u8, by: u32, keyset: &KeysetId)
-    requires { length out.old.items + 14 ≤ LONGEST_ENTRY }
-    ensures octets { out.new.items ≡ out.old.items ++ front_octets kind by keyset.now }
-    ensures len { length out.new.items ≡ length out.old.items + 14 }
-    ensures fits { IsFront by keyset.now }
+fn put_front(out: &mut EntryBuf, kind: u8, by: u32, moment: u64, keyset: &KeysetId)
+    requires { length out.old.items + 22 ≤ LONGEST_ENTRY }
+    ensures octets { out.new.items ≡ out.old.items ++ front_octets Second kind by moment keyset.now }
+    ensures len { length out.new.items ≡ length out.old.items + 22 }
+    ensures fits { IsFront by moment keyset.now }
 {
     put(out, &[kind]);
     put_four(out, by);
     put_eight(out, keyset.card.0);
     put(out, &[keyset.kvn]);
+    put_eight(out, moment);
 }
 
 fn mode_octet(mode: Mode) -> u8
@@ -140,42 +156,43 @@ fn put_job(out: &mut EntryBuf, job: JobId)
     put_four(out, job.job);
 }
 
-fn put_open(out: &mut EntryBuf, by: u32, keyset: &KeysetId, facts: &KeysetFacts)
-    requires { length out.old.items + 87 ≤ LONGEST_ENTRY }
-    ensures octets { out.new.items ≡ out.old.items ++ (front_octets 0x01 by keyset.now ++ facts_octets facts.now) }
-    ensures len { length out.new.items ≤ length out.old.items + 87 }
-    ensures front { IsFront by keyset.now }
+/// The name of a campaign behind its length.
+fn put_name(out: &mut EntryBuf, name: &[u8])
+    requires short { length name.now ≤ LONGEST_NAME }
+    requires room { length out.old.items + 33 ≤ LONGEST_ENTRY }
+    ensures octets { out.new.items ≡ out.old.items ++ name_octets Second name.now }
+    ensures len { length out.new.items ≡ length out.old.items + 1 + length name.now }
+{
+    put(out, &[name.len() as u8]);
+    put(out, name);
+}
+
+fn put_open(out: &mut EntryBuf, by: u32, moment: u64, keyset: &KeysetId, facts: &KeysetFacts)
+    requires { length out.old.items + 95 ≤ LONGEST_ENTRY }
+    ensures octets { out.new.items ≡ out.old.items ++ (front_octets Second 0x01 by moment keyset.now ++ facts_octets facts.now) }
+    ensures len { length out.new.items ≤ length out.old.items + 95 }
+    ensures front { IsFront by moment keyset.now }
     ensures base { facts.now.base < 2 ^ 40 }
     ensures kic { IsTrue (is_key_length (length facts.now.kic)) }
     ensures kid { IsTrue (is_key_length (length facts.now.kid)) }
 {
-    put_front(out, 0x01, by, keyset);
+    put_front(out, 0x01, by, moment, keyset);
     put_facts(out, facts);
 }
 
-fn put_reserve(
-    out: &mut EntryBuf,
-    by: u32,
-    keyset: &KeysetId,
-    counter: Counter,
-    job: JobId,
-    tar: &Tar,
-    body: &[u8],
-)
-    requires { length out.old.items + 30 + length body.now ≤ LONGEST_ENTRY }
-    ensures octets { out.new.items ≡ out.old.items ++ (front_octets 0x02 by keyset.now ++ five counter ++ job_octets job ++ tar.now ++ body.now) }
-    ensures len { length out.new.items ≡ length out.old.items + 30 + length body.now }
-    ensures front { IsFront by keyset.now }
+/// What a reservation is made for: a counter, a job and its application.
+fn put_purpose(out: &mut EntryBuf, counter: Counter, job: JobId, tar: &Tar)
+    requires { length out.old.items + 16 ≤ LONGEST_ENTRY }
+    ensures octets { out.new.items ≡ out.old.items ++ (five counter ++ job_octets job ++ tar.now) }
+    ensures len { length out.new.items ≡ length out.old.items + 16 }
     ensures counter { counter < 2 ^ 40 }
     ensures campaign { job.campaign < 2 ^ 32 }
     ensures job { job.job < 2 ^ 32 }
     ensures tar { length tar.now ≡ 3 }
 {
-    put_front(out, 0x02, by, keyset);
     put_counter(out, counter);
     put_job(out, job);
     put(out, &tar.0);
-    put(out, body);
 }
 
 /// A settlement: an answer or a status behind the counter.
@@ -183,17 +200,18 @@ fn put_settlement(
     out: &mut EntryBuf,
     kind: u8,
     by: u32,
+    moment: u64,
     keyset: &KeysetId,
     counter: Counter,
     settled: &[u8],
 )
-    requires { length out.old.items + 19 + length settled.now ≤ LONGEST_ENTRY }
-    ensures octets { out.new.items ≡ out.old.items ++ (front_octets kind by keyset.now ++ five counter ++ settled.now) }
-    ensures len { length out.new.items ≡ length out.old.items + 19 + length settled.now }
-    ensures front { IsFront by keyset.now }
+    requires { length out.old.items + 27 + length settled.now ≤ LONGEST_ENTRY }
+    ensures octets { out.new.items ≡ out.old.items ++ (front_octets Second kind by moment keyset.now ++ five counter ++ settled.now) }
+    ensures len { length out.new.items ≡ length out.old.items + 27 + length settled.now }
+    ensures front { IsFront by moment keyset.now }
     ensures counter { counter < 2 ^ 40 }
 {
-    put_front(out, kind, by, keyset);
+    put_front(out, kind, by, moment, keyset);
     put_counter(out, counter);
     put(out, settled);
 }

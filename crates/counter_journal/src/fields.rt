@@ -2,9 +2,13 @@
 
 ghost use Rattle.std.specs.Prelude.{◌≡◌, ◌==◌, option_map};
 ghost use Rattle.std.specs.Int.{w32, w64};
-ghost use Rattle.counter_journal.specs.EntryReading.{octet_at, number_at, counter_at, keyset_at, is_kvn, mode_of, flag_of, manner_at, key_at, keys_in, facts_in, job_at, tar_at};
+ghost use Rattle.counter_journal.specs.EntryReading.{octet_at, number_at, counter_at, keyset_at, is_kvn, mode_of, flag_of, manner_at, key_at, keys_in, facts_in, job_at, tar_at, moment_at, short_name_at, name_at};
 
+use crate::versions::Version;
 use ota_core::{CardId, Counter, JobId, KeyBytes, KeysetFacts, KeysetId, Mode, Tar};
+
+/// The greatest number of octets in the name of a campaign.
+const LONGEST_NAME: usize = 32;
 
 /// The next octet.
 pub fn octet_at(octets: &[u8]) -> Option<(u8, &[u8])>
@@ -191,5 +195,45 @@ pub fn tar_at(octets: &[u8]) -> Option<(Tar, &[u8])>
     match octets {
         [first, second, third, rest @ ..] => Some((Tar([*first, *second, *third]), rest)),
         _ => None,
+    }
+}
+
+/// A moment, which is 0 where the first version has none.
+pub fn moment_at(version: Version, octets: &[u8]) -> Option<(u64, &[u8])>
+    ensures { option_map (λ x. (x.0, x.1.now)) result ≡ moment_at version octets.now }
+{
+    match version {
+        Version::First => Some((0, octets)),
+        Version::Second => eight_at(octets),
+    }
+}
+
+/// A name behind its length.
+#[tactic(auto, unfolding(crate::specs::EntryReading::short_name_at))]
+fn short_name_at(octets: &[u8]) -> Option<(&[u8], &[u8])>
+    ensures { option_map (λ x. (x.0.now, x.1.now)) result ≡ short_name_at octets.now }
+{
+    match octets {
+        [] => None,
+        [size, rest @ ..] => {
+            let size = usize::from(*size);
+            if LONGEST_NAME < size {
+                return None;
+            }
+            if rest.len() < size {
+                return None;
+            }
+            Some(rest.split_at(size))
+        }
+    }
+}
+
+/// The name of a campaign, which is empty where the first version has none.
+pub fn name_at(version: Version, octets: &[u8]) -> Option<(&[u8], &[u8])>
+    ensures { option_map (λ x. (x.0.now, x.1.now)) result ≡ name_at version octets.now }
+{
+    match version {
+        Version::First => Some((&[], octets)),
+        Version::Second => short_name_at(octets),
     }
 }

@@ -1,50 +1,114 @@
 //! How the history of a lane is read from the parts of its log.
 
-ghost use Rattle.std.specs.Prelude.{◌≡◌, ◌+◌, ◌%◌, ◌==◌, ◌<◌, is_none, length, reverse, IfOk};
+ghost use Rattle.std.specs.Prelude.{◌≡◌, ◌+◌, ◌%◌, ◌==◌, ◌<◌, [], is_none, length, reverse, IfOk};
 ghost use Rattle.ota_core.specs.Entry.{keyset_of};
 ghost use Rattle.ota_core.specs.History.{broken};
 ghost use Rattle.gate_log.specs.declared.log_errors.LogErr.TheVariants as log_err;
-ghost use Rattle.counter_journal.specs.HistoryReading.{IsRead, IsNext, belongs, HistoryAnswer};
+ghost use Rattle.counter_journal.specs.HistoryReading.{IsRead, IsNext, belongs, is_mark, number_behind, IsMarkTaken, IsTaken, HistoryAnswer};
 
 use crate::entries_read::entry_in;
+use crate::versions::Version;
 use gate_log::LogErr;
-use ota_core::{Entry, History, KeysetId, Memory, Octets};
+use ota_core::{Entry, History, Memory, Octets};
 use std::alloc::Global;
 
+/// What was read of a journal: its history so far, and the version of the part that comes next.
+#[derive(Debug, Drop)]
+pub struct Past {
+    pub history: History,
+    pub version: Version,
+}
+
 /// The history of the lane whose entries these parts are, or the number of the first part that is bad.
-pub fn history_of(alloc: Global, parts: &[Octets], lane: u16, lanes: u16) -> Result<History, LogErr>
+pub fn history_of(alloc: Global, parts: &[Octets], lane: u16, lanes: u16) -> Result<Past, LogErr>
     requires { 0 < lanes }
     ensures { HistoryAnswer lane lanes parts.now result }
 {
-    let mut history = History::new(alloc);
+    let mut past = Past {
+        history: History::new(alloc),
+        version: Version::First,
+    };
     for part in parts {
-        match next_entry(alloc, &history, part.as_slice(), lane, lanes)? {
-            Some(entry) => history.add(entry)?,
-            None => return Err(damaged(&history)),
+        let taken = past.take(alloc, part.as_slice(), lane, lanes)?;
+        if !taken {
+            return Err(past.damaged());
         }
     }
-    Ok(history)
+    Ok(past)
 }
 
-/// The refusal of a part behind this history.
-fn damaged(history: &History) -> LogErr
-    ensures { result ≡ log_err.Damaged (length history.now.entries + 1) }
+impl Past {
+    /// Reads the next part: an entry of the lane that may follow, or the mark of the second version where none stands
+    /// before it. False where it is neither.
+    pub fn take(
+        &mut self,
+        alloc: Global,
+        part: &[u8],
+        lane: u16,
+        lanes: u16,
+    ) -> Result<bool, Memory>
+        requires { 0 < lanes }
+        ensures { IfOk result (λ taken. IsTaken lane lanes self.old part.now taken self.new) }
+    {
+        if is_mark(part) {
+            return Ok(self.begin_second());
+        }
+        match next_entry(alloc, &self.history, self.version, part, lane, lanes)? {
+            None => Ok(false),
+            Some(entry) => {
+                self.history.add(entry)?;
+                Ok(true)
+            }
+        }
+    }
+
+    /// The refusal of the part behind those that were read.
+    fn damaged(&self) -> LogErr
+        ensures { result ≡ log_err.Damaged (number_behind self.now) }
+    {
+        let entries = self.history.entries().len() as u64;
+        match self.version {
+            Version::First => LogErr::Damaged(entries + 1),
+            Version::Second => LogErr::Damaged(entries + 2),
+        }
+    }
+
+    /// Goes on in the second version, where it doesn't already.
+    fn begin_second(&mut self) -> bool
+        ensures { IsMarkTaken self.old result self.new }
+    {
+        let first = self.version == Version::First;
+        self.version = Version::Second;
+        first
+    }
+}
+
+/// The part that says that the second version begins.
+pub const MARK: [u8; 2] = [0x06, 0x02];
+
+/// Whether the part is the mark of the second version.
+fn is_mark(part: &[u8]) -> bool
+    ensures { result ≡ is_mark part.now }
 {
-    LogErr::Damaged(history.entries().len() as u64 + 1)
+    match part {
+        [first, second] => *first == 0x06 && *second == 0x02,
+        _ => false,
+    }
 }
 
 /// The entry of the lane that this part is and that may follow the history.
 fn next_entry(
     alloc: Global,
     history: &History,
+    version: Version,
     part: &[u8],
     lane: u16,
     lanes: u16,
 ) -> Result<Option<Entry>, Memory>
     requires { 0 < lanes }
-    ensures { IfOk result (IsNext lane lanes history.now.entries part.now) }
+    ensures { IfOk result (IsNext lane lanes history.now.entries version part.now) }
 {
-    match read_entry(alloc, part)? {
+    match read_entry(alloc, version, part)? {
         None => Ok(None),
         Some(entry) => {
             if !belongs(history, &entry, lane, lanes) {
@@ -55,11 +119,11 @@ fn next_entry(
     }
 }
 
-/// The entry that this part is.
-fn read_entry(alloc: Global, part: &[u8]) -> Result<Option<Entry>, Memory>
-    ensures { IfOk result (IsRead part.now) }
+/// The entry of this version that this part is.
+fn read_entry(alloc: Global, version: Version, part: &[u8]) -> Result<Option<Entry>, Memory>
+    ensures { IfOk result (IsRead version part.now) }
 {
-    entry_in(alloc, part)
+    entry_in(alloc, version, part)
 }
 
 /// Whether the entry is of the lane and may follow the history.
@@ -82,17 +146,5 @@ fn lane_of(entry: &Entry, lanes: u16) -> u64
     requires { 0 < lanes }
     ensures { result ≡ (keyset_of entry.now).card.0 % lanes }
 {
-    keyset_of(entry).card.0 % u64::from(lanes)
-}
-
-fn keyset_of(entry: &Entry) -> KeysetId
-    ensures { result ≡ keyset_of entry.now }
-{
-    match entry {
-        Entry::Open { keyset, .. }
-        | Entry::Reserve { keyset, .. }
-        | Entry::Done { keyset, .. }
-        | Entry::Refused { keyset, .. }
-        | Entry::Close { keyset, .. } => *keyset,
-    }
+    entry.keyset().card.0 % u64::from(lanes)
 }

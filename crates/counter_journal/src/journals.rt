@@ -1,20 +1,25 @@
 //! The journal of a lane.
 
-ghost use Rattle.std.specs.Prelude.{◌≡◌, ◌⊎◌, ◌+◌, ◌*◌, ◌^◌, ◌<◌, ◌≤◌, [], ◌++◌, ℕ, List, All, None, Err, length, reverse, take, IfOk, IfErr, OnOk, OnErr};
+ghost use Rattle.std.specs.Prelude.{◌≡◌, ◌⊎◌, ◌+◌, ◌*◌, ◌^◌, ◌<◌, ◌≤◌, [], ◌∷◌, ◌++◌, ℕ, List, All, None, Err, length, reverse, take, IfOk, IfErr, OnOk, OnErr};
 ghost use Rattle.disk_model.specs.Disk.{Tells, image_now, DiskRun, Only};
 ghost use Rattle.gate_log.specs.declared.log_errors.LogErr.TheVariants as log_err;
-ghost use Rattle.gate_log.specs.Reading.{parts_of};
-ghost use Rattle.gate_log.specs.Answers.{LogCause, UnlessFault, IsNotFull};
-ghost use Rattle.gate_log.specs.Opening.{OpensAlike, AppendTicks, need_of};
-ghost use Rattle.ota_core.specs.History.{broken_batch};
+ghost use Rattle.gate_log.specs.Reading.{parts_of, OpensTo};
+ghost use Rattle.gate_log.specs.Reading.Reading.{Opened};
+ghost use Rattle.gate_log.specs.Answers.{LogCause, UnlessFault, IsNotFull, IsWantOrFault};
+ghost use Rattle.gate_log.specs.Opening.{IsOpenLog, AppendTicks, need_of};
+ghost use Rattle.ota_core.specs.History.{IsLegal, broken_batch};
+ghost use Rattle.counter_journal.specs.declared.versions.Version.TheVariants.{First};
+ghost use Rattle.counter_journal.specs.EntryOctets.{MARK};
 ghost use Rattle.counter_journal.specs.EntryRanges.{IsSized, IsEntry, IsOfLane, IsEntryOf, IsHistory};
 ghost use Rattle.counter_journal.specs.Journal.{journal_head};
 ghost use Rattle.counter_journal.specs.HistoryReading.{PartsAnswer, is_damage};
+ghost use Rattle.counter_journal.specs.JournalOpening.{IsBeforeOrOpened, IsOpenedTo, IsCutAtMost, IsGoingOn};
 ghost use Rattle.counter_journal.specs.JournalReading.{parts_for, Holds, OpeningAnswer, IsReady, IsSameJournal, AddAnswer, UnlessWanting, IsBeforeCalls};
 
 use crate::batches::put_entries;
 use crate::heads::head_of;
-use crate::histories_read::history_of;
+use crate::histories_read::{Past, history_of};
+use crate::marks::go_on;
 use disk_model::DiskCalls;
 use gate_log::{Batch, Log, LogErr, open, sound_records};
 use ota_core::{Entry, History, Memory};
@@ -22,7 +27,7 @@ use std::alloc::Global;
 use std::marker::Model;
 
 /// The greatest number of octets in an entry that is added.
-const LONGEST_ENTRY: u32 = 4126;
+const LONGEST_ENTRY: u32 = 4167;
 
 /// The journal of a lane on a disk: its history, and where its log ends.
 #[derive(Debug, Drop)]
@@ -41,7 +46,8 @@ pub struct Journal {
 }
 
 impl Model for Journal {
-    ghost use Rattle.counter_journal.specs.JournalReading.{JournalValue};
+    ghost use Rattle.counter_journal.specs.JournalOpening.{IsBeforeOrOpened, IsOpenedTo, IsCutAtMost, IsGoingOn};
+ghost use Rattle.counter_journal.specs.JournalReading.{JournalValue};
     ghost use Rattle.counter_journal.specs.JournalKept.{IsJournalKept};
 
     ghost Value = { JournalValue };
@@ -54,9 +60,12 @@ impl Model for Journal {
 impl Journal {
     /// Opens the journal of this lane, of so many lanes, and reads its history.
     ///
-    /// The log is opened as such, so that octets behind its gate are cut off. `Damaged` has the number, from 1, of the
-    /// first part that is wrong in any way: it is no entry, it is of a card of another lane, it breaks a rule of the
-    /// history, or its batch is damaged. A stop at any moment leaves what opens alike. It never answers `Full`.
+    /// The log is opened as such, so that octets behind its gate are cut off. A journal of version 1 is taken over: once
+    /// its history is read, the mark of version 2 is added, of 11 octets with its batch. Where the log has no room for
+    /// these it stays of version 1, and no entry can be added. `Damaged` has the number, from 1, of the first part that
+    /// is wrong in any way: it is no entry, it is of a card of another lane, it breaks a rule of the history, it is a
+    /// second mark, or its batch is damaged. A refusal cuts off nothing but what lies behind the gate. A stop at any
+    /// moment leaves what holds the same history. It never answers `Full`.
     pub fn open<D: DiskCalls>(
         alloc: Global,
         disk: &mut D,
@@ -66,17 +75,19 @@ impl Journal {
         requires { lane < lanes }
         ensures answer { Tells D.told disk.old → OpeningAnswer lane lanes (D.told.seen disk.old) result }
         ensures ready { Tells D.told disk.old → IfOk result (IsReady D.told disk.new) }
-        ensures content { Tells D.told disk.old → IfOk result (λ journal. D.told.seen disk.new ≡ take journal.length (D.told.seen disk.old)) }
-        ensures moments { Tells D.told disk.old → DiskRun D.told disk.old disk.new (λ image. image_now D.told disk.old image ⊎ OpensAlike (journal_head lane lanes) (D.told.seen disk.old) image) }
+        ensures content { Tells D.told disk.old → IfOk result (IsOpenedTo (D.told.seen disk.old) (D.told.seen disk.new)) }
+        ensures refused { Tells D.told disk.old → OnErr result (UnlessFault result (IsCutAtMost (journal_head lane lanes) (D.told.seen disk.old) (D.told.seen disk.new))) }
+        ensures moments { Tells D.told disk.old → DiskRun D.told disk.old disk.new (IsBeforeOrOpened D.told disk.old lane lanes) }
         ensures lane { IfOk result (λ journal. (journal.lane ≡ lane) × (journal.lanes ≡ lanes)) }
+        ensures history { IfOk result (λ journal. IsHistory lane lanes journal.entries) }
         ensures tells { D.told.tells disk.new ≡ D.told.tells disk.old }
         ensures cause { LogCause (D.counts disk.old) (D.counts disk.new) result }
         ensures not_full { IfErr result IsNotFull }
     {
         match open(alloc, disk, head_of(lane, lanes)) {
             Ok(log) => {
-                let history = read_history(alloc, disk, lane, lanes)?;
-                journal_of(alloc, lane, lanes, log, history)
+                let past = read_history(alloc, disk, lane, lanes)?;
+                journal_of(alloc, disk, lane, lanes, log, past)
             }
             Err(error) => {
                 if !is_damage(error) {
@@ -89,10 +100,12 @@ impl Journal {
         }
     }
 
-    /// The history that the journal holds. Each reserved script in it has 1 to 4,096 octets.
+    /// The history that the journal holds. Each reserved script in it has 1 to 4,096 octets, and
+    /// each name at most 32.
     pub fn history(&self) -> &History
         ensures entries { result.now.entries ≡ self.now.entries }
         ensures of_lane { All (IsEntryOf self.now.lane self.now.lanes) self.now.entries }
+        ensures legal { IsLegal self.now.entries }
     {
         &self.history
     }
@@ -101,6 +114,7 @@ impl Journal {
     pub fn into_history(self) -> History
         ensures entries { result.entries ≡ self.entries }
         ensures of_lane { All (IsEntryOf self.lane self.lanes) result.entries }
+        ensures legal { IsLegal result.entries }
     {
         self.history
     }
@@ -135,8 +149,8 @@ impl Journal {
 
     /// Adds 1 to 16 entries in one batch, all or none.
     ///
-    /// They are legal one after the other, of cards of this lane, with scripts of 1 to 4,096 octets and answers of at
-    /// most 4,096. The disk is as the opening, or the last addition that answered Ok, left it. A stop at any moment
+    /// They are legal one after the other, of cards of this lane, with scripts of 1 to 4,096 octets, answers of at
+    /// most 4,096, and names of at most 32. The disk is as the opening, or the last addition that answered Ok, left it. A stop at any moment
     /// leaves the journal of the history so far, or of it and all entries; after Ok, of these. `Memory` and `Full` come
     /// before the first device call, with nothing changed. After a fault of the disk the history is the one before, and
     /// the journal is opened again.
@@ -152,6 +166,7 @@ impl Journal {
         ensures fit { UnlessWanting result (All IsEntry entries.items) }
         ensures added { OnOk result (self.new.entries ≡ self.old.entries ++ entries.items) }
         ensures length { OnOk result (self.new.length ≡ self.old.length + need_of (parts_for entries.items)) }
+        ensures history { OnOk result (IsHistory self.old.lane self.old.lanes self.new.entries) }
         ensures lane { (self.new.lane ≡ self.old.lane) × (self.new.lanes ≡ self.old.lanes) }
         ensures err { OnErr result (IsSameJournal self.old self.new) }
         ensures room { self.old.room ≤ self.new.room + length entries.items }
@@ -188,10 +203,10 @@ fn read_history<D: DiskCalls>(
     disk: &mut D,
     lane: u16,
     lanes: u16,
-) -> Result<History, LogErr>
+) -> Result<Past, LogErr>
     requires { 0 < lanes }
     ensures answer { Tells D.told disk.old → PartsAnswer lane lanes (parts_of (journal_head lane lanes) (D.told.seen disk.old)) result }
-    ensures of_lane { IfOk result (λ history. All (IsEntryOf lane lanes) history.entries) }
+    ensures history { IfOk result (λ past. IsHistory lane lanes past.history.entries) }
     ensures content { Tells D.told disk.old → UnlessFault result (D.told.seen disk.new ≡ D.told.seen disk.old) }
     ensures moments { Tells D.told disk.old → DiskRun D.told disk.old disk.new (image_now D.told disk.old) }
     ensures tells { D.told.tells disk.new ≡ D.told.tells disk.old }
@@ -202,26 +217,35 @@ fn read_history<D: DiskCalls>(
     history_of(alloc, &parts, lane, lanes)
 }
 
-/// A journal that has room for one entry.
-fn journal_of(
+/// The journal of a log that was opened and read. Where its parts are of the first version it is taken over.
+fn journal_of<D: DiskCalls>(
     alloc: Global,
+    disk: &mut D,
     lane: u16,
     lanes: u16,
     log: Log,
-    history: History,
+    past: Past,
 ) -> Result<Journal, LogErr>
     requires some { 0 < lanes }
-    requires of_lane { All (IsEntryOf lane lanes) history.entries }
-    ensures made { IfOk result (λ journal. journal ≡ record { lane = lane; lanes = lanes; entries = history.entries; length = log; room = 0 }) }
-    ensures err { IfErr result (λ error. error ≡ log_err.Memory) }
+    requires history { IsHistory lane lanes past.history.entries }
+    requires settled { Tells D.told disk.old → IsOpenLog D.told disk.old log }
+    ensures made { IfOk result (λ journal. (journal ≡ record { lane = lane; lanes = lanes; entries = past.history.entries; length = journal.length; room = 0 })
+        × IsGoingOn D.told disk.old disk.new past.version log journal.length) }
+    ensures moments { Tells D.told disk.old → (head : List ℕ) (parts : List (List ℕ)) → parts_of head (D.told.seen disk.old) ≡ Opened parts []
+        → DiskRun D.told disk.old disk.new (λ image. OpensTo head parts image ⊎ ((past.version ≡ First) × OpensTo head (parts ++ MARK ∷ []) image)) }
+    ensures tells { D.told.tells disk.new ≡ D.told.tells disk.old }
+    ensures cause { LogCause (D.counts disk.old) (D.counts disk.new) result }
+    ensures err { IfErr result IsWantOrFault }
+    ensures memory { result ≡ Err log_err.Memory → disk.new ≡ disk.old }
 {
-    let batch = Batch::room(alloc, 1, LONGEST_ENTRY)?;
+    let mut batch = Batch::room(alloc, 1, LONGEST_ENTRY)?;
+    let log = go_on(disk, log, &mut batch, past.version)?;
     Ok(Journal {
         alloc,
         lane,
         lanes,
         log,
-        history,
+        history: past.history,
         batch,
         batch_room: 1,
         room: 0,

@@ -10,10 +10,12 @@ mod heads;
 mod histories_read;
 mod journals;
 mod laws;
+mod marks;
+mod versions;
 
 pub use formats::format;
 pub use journals::Journal;
-pub use laws::{one_history, written_entries_are_read};
+pub use laws::{one_history, openings_keep_the_history, written_entries_are_read};
 
 #[cfg(test)]
 mod tests;

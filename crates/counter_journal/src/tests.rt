@@ -1,5 +1,5 @@
 // Journals on disks in memory: their octets, what they hold, what is refused, and what stands after a stop at each call.
-ghost use Rattle.std.specs.Prelude.{◌≡◌, ◌<◌, IfOk};
+ghost use Rattle.std.specs.Prelude.{◌≡◌, ◌<◌, ◌≤◌, length, IfOk};
 ghost use Rattle.counter_journal.specs.EntryRanges.{IsSized, IsOfLane};
 
 use crate::{Journal, format};
@@ -14,6 +14,12 @@ use std::test::Fail;
 /// The journal of lane 0 of 1 without entries. 11 octets.
 const EMPTY: [u8; 11] = [
     0xA5, 0x4F, 0x54, 0x41, 0x4A, 0x01, 0x00, 0x00, 0x00, 0x01, 0x00,
+];
+
+/// The same once it was opened. 22 octets.
+const EMPTY_MARKED: [u8; 22] = [
+    0xA5, 0x4F, 0x54, 0x41, 0x4A, 0x01, 0x00, 0x00, 0x00, 0x01, 0xA5, 0x00, 0x00, 0x00, 0x06, 0x00,
+    0x00, 0x00, 0x02, 0x06, 0x02, 0x00,
 ];
 
 /// The keyset 1 of card 8901 (22C5) is opened by the session: counter 0, process only if higher, ciphered, two keys of
@@ -58,6 +64,60 @@ const CLOSE: &[u8] = &[
     0x05, 0x00, 0x00, 0x00, 0x00, 0x00, 0x00, 0x00, 0x00, 0x00, 0x00, 0x22, 0xC5, 0x01,
 ];
 
+/// The Open in version 2, at moment 0. 63 octets.
+const OPEN_2: &[u8] = &[
+    0x01, 0x00, 0x00, 0x00, 0x00, 0x00, 0x00, 0x00, 0x00, 0x00, 0x00, 0x22, 0xC5, 0x01, 0x00, 0x00,
+    0x00, 0x00, 0x00, 0x00, 0x00, 0x00, 0x00, 0x00, 0x00, 0x00, 0x00, 0x02, 0x01, 0x10, 0x00, 0x01,
+    0x02, 0x03, 0x04, 0x05, 0x06, 0x07, 0x08, 0x09, 0x0A, 0x0B, 0x0C, 0x0D, 0x0E, 0x0F, 0x10, 0x2B,
+    0x7E, 0x15, 0x16, 0x28, 0xAE, 0xD2, 0xA6, 0xAB, 0xF7, 0x15, 0x88, 0x09, 0xCF, 0x4F, 0x3C,
+];
+
+/// The first reservation in version 2, at moment 0 with an empty name. 61 octets.
+const RESERVE_2: &[u8] = &[
+    0x02, 0x00, 0x00, 0x00, 0x01, 0x00, 0x00, 0x00, 0x00, 0x00, 0x00, 0x22, 0xC5, 0x01, 0x00, 0x00,
+    0x00, 0x00, 0x00, 0x00, 0x00, 0x00, 0x00, 0x00, 0x00, 0x00, 0x01, 0x00, 0x00, 0x00, 0x07, 0x00,
+    0x00, 0x00, 0x01, 0xB0, 0x00, 0x10, 0x00, 0x00, 0xA4, 0x00, 0x00, 0x02, 0x7F, 0x10, 0x00, 0xA4,
+    0x00, 0x00, 0x02, 0x6F, 0x3A, 0x00, 0xD6, 0x00, 0x00, 0x03, 0xAA, 0xBB, 0xCC,
+];
+
+/// The second reservation in version 2, at moment 0 with an empty name. 61 octets.
+const SECOND_2: &[u8] = &[
+    0x02, 0x00, 0x00, 0x00, 0x01, 0x00, 0x00, 0x00, 0x00, 0x00, 0x00, 0x22, 0xC5, 0x01, 0x00, 0x00,
+    0x00, 0x00, 0x00, 0x00, 0x00, 0x00, 0x00, 0x00, 0x00, 0x00, 0x02, 0x00, 0x00, 0x00, 0x07, 0x00,
+    0x00, 0x00, 0x02, 0xB0, 0x00, 0x10, 0x00, 0x00, 0xA4, 0x00, 0x00, 0x02, 0x7F, 0x10, 0x00, 0xA4,
+    0x00, 0x00, 0x02, 0x6F, 0x3A, 0x00, 0xD6, 0x00, 0x00, 0x03, 0xAA, 0xBB, 0xCC,
+];
+
+/// The second reservation in version 2, at moment 0102030405060708 in the campaign `spring`. 67 octets.
+const NAMED_2: &[u8] = &[
+    0x02, 0x00, 0x00, 0x00, 0x01, 0x00, 0x00, 0x00, 0x00, 0x00, 0x00, 0x22, 0xC5, 0x01, 0x01, 0x02,
+    0x03, 0x04, 0x05, 0x06, 0x07, 0x08, 0x00, 0x00, 0x00, 0x00, 0x02, 0x00, 0x00, 0x00, 0x07, 0x00,
+    0x00, 0x00, 0x02, 0xB0, 0x00, 0x10, 0x06, 0x73, 0x70, 0x72, 0x69, 0x6E, 0x67, 0x00, 0xA4, 0x00,
+    0x00, 0x02, 0x7F, 0x10, 0x00, 0xA4, 0x00, 0x00, 0x02, 0x6F, 0x3A, 0x00, 0xD6, 0x00, 0x00, 0x03,
+    0xAA, 0xBB, 0xCC,
+];
+
+/// The answer in version 2, at moment 0. 30 octets.
+const DONE_2: &[u8] = &[
+    0x03, 0x00, 0x00, 0x00, 0x01, 0x00, 0x00, 0x00, 0x00, 0x00, 0x00, 0x22, 0xC5, 0x01, 0x00, 0x00,
+    0x00, 0x00, 0x00, 0x00, 0x00, 0x00, 0x00, 0x00, 0x00, 0x00, 0x01, 0x03, 0x69, 0x81,
+];
+
+/// The refusal in version 2, at moment 0. 28 octets.
+const REFUSED_2: &[u8] = &[
+    0x04, 0x00, 0x00, 0x00, 0x01, 0x00, 0x00, 0x00, 0x00, 0x00, 0x00, 0x22, 0xC5, 0x01, 0x00, 0x00,
+    0x00, 0x00, 0x00, 0x00, 0x00, 0x00, 0x00, 0x00, 0x00, 0x00, 0x01, 0x09,
+];
+
+/// The Close in version 2, at moment 0. 22 octets.
+const CLOSE_2: &[u8] = &[
+    0x05, 0x00, 0x00, 0x00, 0x00, 0x00, 0x00, 0x00, 0x00, 0x00, 0x00, 0x22, 0xC5, 0x01, 0x00, 0x00,
+    0x00, 0x00, 0x00, 0x00, 0x00, 0x00,
+];
+
+/// The part that says that version 2 begins.
+const MARK: &[u8] = &[0x06, 0x02];
+
 /// Three commands of a file script.
 const SCRIPT: [u8; 22] = [
     0x00, 0xA4, 0x00, 0x00, 0x02, 0x7F, 0x10, 0x00, 0xA4, 0x00, 0x00, 0x02, 0x6F, 0x3A, 0x00, 0xD6,
@@ -81,7 +141,7 @@ fn keyset() -> KeysetId
     }
 }
 
-fn opened() -> Result<Entry, Fail>
+fn opened_at(moment: u64) -> Result<Entry, Fail>
     ensures sized { IfOk result IsSized }
     ensures of_lane { IfOk result (IsOfLane 0 1) }
 {
@@ -96,9 +156,17 @@ fn opened() -> Result<Entry, Fail>
     };
     Ok(Entry::Open {
         by: 0,
+        moment,
         keyset: keyset(),
         facts,
     })
+}
+
+fn opened() -> Result<Entry, Fail>
+    ensures sized { IfOk result IsSized }
+    ensures of_lane { IfOk result (IsOfLane 0 1) }
+{
+    opened_at(0)
 }
 
 /// The reservation of the counter and of the job of this number.
@@ -106,9 +174,20 @@ fn reserved(alloc: Global, number: u32) -> Result<Entry, Memory>
     ensures sized { IfOk result IsSized }
     ensures of_lane { IfOk result (IsOfLane 0 1) }
 {
+    named(alloc, number, 0, &[])
+}
+
+/// The same at this moment, in a campaign of this name.
+fn named(alloc: Global, number: u32, moment: u64, name: &[u8]) -> Result<Entry, Memory>
+    requires { length name.now ≤ 32 }
+    ensures sized { IfOk result IsSized }
+    ensures of_lane { IfOk result (IsOfLane 0 1) }
+{
+    let name = Octets::from_slice(alloc, name)?;
     let body = Octets::from_slice(alloc, &SCRIPT)?;
     Ok(Entry::Reserve {
         by: 1,
+        moment,
         keyset: keyset(),
         counter: Counter(u64::from(number)),
         job: JobId {
@@ -116,6 +195,7 @@ fn reserved(alloc: Global, number: u32) -> Result<Entry, Memory>
             job: number,
         },
         tar: Tar([0xB0, 0x00, 0x10]),
+        name,
         body,
     })
 }
@@ -127,6 +207,7 @@ fn done(alloc: Global) -> Result<Entry, Memory>
     let answer = Octets::from_slice(alloc, &[0x03, 0x69, 0x81])?;
     Ok(Entry::Done {
         by: 1,
+        moment: 0,
         keyset: keyset(),
         counter: Counter(1),
         answer,
@@ -139,6 +220,7 @@ fn refused() -> Entry
 {
     Entry::Refused {
         by: 1,
+        moment: 0,
         keyset: keyset(),
         counter: Counter(1),
         status: 0x09,
@@ -151,6 +233,7 @@ fn closed() -> Entry
 {
     Entry::Close {
         by: 0,
+        moment: 0,
         keyset: keyset(),
     }
 }
@@ -177,76 +260,69 @@ fn broken(alloc: Global, lane: u8, lanes: u8, parts: &[&[u8]]) -> Result<Vec<u8>
     Ok(octets)
 }
 
-fn are_same(one: &Entry, other: &Entry) -> bool {
+/// Whether what the two entries hold beside sender, moment and keyset is the same.
+fn have_same(one: &Entry, other: &Entry) -> bool {
     match one {
-        Entry::Open { by, keyset, facts } => match other {
-            Entry::Open {
-                by: b,
-                keyset: k,
-                facts: f,
-            } => *by == *b && *keyset == *k && *facts == *f,
+        Entry::Open { facts, .. } => match other {
+            Entry::Open { facts: f, .. } => *facts == *f,
             _ => false,
         },
         Entry::Reserve {
-            by,
-            keyset,
             counter,
             job,
             tar,
+            name,
             body,
+            ..
         } => match other {
             Entry::Reserve {
-                by: b,
-                keyset: k,
                 counter: c,
                 job: j,
                 tar: t,
+                name: n,
                 body: s,
+                ..
             } => {
-                *by == *b
-                    && *keyset == *k
-                    && *counter == *c
+                *counter == *c
                     && *job == *j
                     && *tar == *t
+                    && name.as_slice() == n.as_slice()
                     && body.as_slice() == s.as_slice()
             }
             _ => false,
         },
         Entry::Done {
-            by,
-            keyset,
-            counter,
-            answer,
+            counter, answer, ..
         } => match other {
             Entry::Done {
-                by: b,
-                keyset: k,
                 counter: c,
                 answer: a,
-            } => {
-                *by == *b && *keyset == *k && *counter == *c && answer.as_slice() == a.as_slice()
-            }
+                ..
+            } => *counter == *c && answer.as_slice() == a.as_slice(),
             _ => false,
         },
         Entry::Refused {
-            by,
-            keyset,
-            counter,
-            status,
+            counter, status, ..
         } => match other {
             Entry::Refused {
-                by: b,
-                keyset: k,
                 counter: c,
                 status: s,
-            } => *by == *b && *keyset == *k && *counter == *c && *status == *s,
+                ..
+            } => *counter == *c && *status == *s,
             _ => false,
         },
-        Entry::Close { by, keyset } => match other {
-            Entry::Close { by: b, keyset: k } => *by == *b && *keyset == *k,
+        Entry::Close { .. } => match other {
+            Entry::Close { .. } => true,
             _ => false,
         },
     }
+}
+
+fn are_same(one: &Entry, other: &Entry) -> bool {
+    one.by() == other.by()
+        && one.moment() == other.moment()
+        && one.keyset() == other.keyset()
+        && have_same(one, other)
 }
 
 /// Whether these entries are those.
@@ -320,15 +396,36 @@ fn a_journal_is_made_where_none_is(rt: HostRuntime) -> Result<(), Fail> {
     Ok(())
 }
 
+/// Whether an opening of a journal of lane 0 of 1 with these parts makes it one of so many octets, with those parts.
+fn opens_to(alloc: Global, parts: &[&[u8]], length: u64, left: &[&[u8]]) -> Result<bool, Fail> {
+    let mut disk = MemDisk::of(alloc, &journal(alloc, 0, 1, parts)?)?;
+    let whole = journal(alloc, 0, 1, left)?;
+    let opened = Journal::open(alloc, &mut disk, 0, 1);
+    let journal = opened.ok().ok_or("these are the octets of a journal")?;
+    Ok(journal.length() == length && disk.content() == whole.as_slice())
+}
+
 #[test]
 fn a_journal_without_entries_opens(rt: HostRuntime) -> Result<(), Fail> {
     let alloc = rt.alloc();
     let mut disk = MemDisk::of(alloc, &EMPTY)?;
     let opened = Journal::open(alloc, &mut disk, 0, 1);
     let journal = opened.ok().ok_or("these are the octets of a journal")?;
-    assert_eq!(rt; journal.length(), 11);
+    assert_eq!(rt; journal.length(), 22);
     assert!(rt; journal.history().entries().is_empty());
-    assert!(rt; disk.content() == EMPTY.as_slice());
+    assert!(rt; disk.content() == EMPTY_MARKED.as_slice());
+    Ok(())
+}
+
+#[test]
+fn a_journal_is_taken_over_once(rt: HostRuntime) -> Result<(), Fail> {
+    let alloc = rt.alloc();
+    assert!(rt; opens_to(alloc, &[], 22, &[MARK])?);
+    assert!(rt; opens_to(alloc, &[MARK], 22, &[MARK])?);
+    let first = [OPEN, RESERVE, DONE];
+    let taken = [OPEN, RESERVE, DONE, MARK];
+    assert!(rt; opens_to(alloc, &first, 178, &taken)?);
+    assert!(rt; opens_to(alloc, &taken, 178, &taken)?);
     Ok(())
 }
 
@@ -351,42 +448,26 @@ fn adds(
 #[test]
 fn entries_are_added_by_their_octets(rt: HostRuntime) -> Result<(), Fail> {
     let alloc = rt.alloc();
-    assert!(rt; adds(alloc, &[], opened()?, 75, &[OPEN])?);
-    assert!(rt; adds(alloc, &[OPEN], reserved(alloc, 1)?, 136, &[OPEN, RESERVE])?);
-    assert!(rt;
-        adds(
-            alloc,
-            &[OPEN, RESERVE],
-            reserved(alloc, 2)?,
-            197,
-            &[OPEN, RESERVE, SECOND]
-        )?
-    );
-    assert!(rt;
-        adds(
-            alloc,
-            &[OPEN, RESERVE],
-            done(alloc)?,
-            167,
-            &[OPEN, RESERVE, DONE]
-        )?
-    );
+    assert!(rt; adds(alloc, &[], opened()?, 94, &[MARK, OPEN_2])?);
+    let open = [MARK, OPEN_2];
+    let reserve = [MARK, OPEN_2, RESERVE_2];
+    assert!(rt; adds(alloc, &open, reserved(alloc, 1)?, 164, &reserve)?);
+    let both = [MARK, OPEN_2, RESERVE_2, SECOND_2];
+    assert!(rt; adds(alloc, &reserve, reserved(alloc, 2)?, 234, &both)?);
+    let done_too = [MARK, OPEN_2, RESERVE_2, DONE_2];
+    assert!(rt; adds(alloc, &reserve, done(alloc)?, 203, &done_too)?);
+    let named_too = [MARK, OPEN_2, RESERVE_2, NAMED_2];
+    let spring = named(alloc, 2, 0x0102_0304_0506_0708, b"spring")?;
+    assert!(rt; adds(alloc, &reserve, spring, 240, &named_too)?);
     Ok(())
 }
 
 #[test]
 fn a_refusal_and_a_close_are_added_by_their_octets(rt: HostRuntime) -> Result<(), Fail> {
     let alloc = rt.alloc();
-    assert!(rt;
-        adds(
-            alloc,
-            &[OPEN, RESERVE],
-            refused(),
-            165,
-            &[OPEN, RESERVE, REFUSED]
-        )?
-    );
-    assert!(rt; adds(alloc, &[OPEN], closed(), 98, &[OPEN, CLOSE])?);
+    let refusal = [OPEN, RESERVE, MARK, REFUSED_2];
+    assert!(rt; adds(alloc, &[OPEN, RESERVE], refused(), 184, &refusal)?);
+    assert!(rt; adds(alloc, &[OPEN], closed(), 117, &[OPEN, MARK, CLOSE_2])?);
     Ok(())
 }
 
@@ -401,8 +482,14 @@ fn entries_are_read_back(rt: HostRuntime) -> Result<(), Fail> {
     let alloc = rt.alloc();
     let answered = vec![in alloc; opened()?, reserved(alloc, 1)?, done(alloc)?]?;
     assert!(rt; reads(alloc, &[OPEN, RESERVE, DONE], &answered)?);
+    assert!(rt; reads(alloc, &[OPEN, RESERVE, MARK, DONE_2], &answered)?);
+    assert!(rt; reads(alloc, &[MARK, OPEN_2, RESERVE_2, DONE_2], &answered)?);
     let settled = vec![in alloc; opened()?, reserved(alloc, 1)?, refused(), closed()]?;
     assert!(rt; reads(alloc, &[OPEN, RESERVE, REFUSED, CLOSE], &settled)?);
+    assert!(rt; reads(alloc, &[OPEN, MARK, RESERVE_2, REFUSED_2, CLOSE_2], &settled)?);
+    let spring = named(alloc, 2, 0x0102_0304_0506_0708, b"spring")?;
+    let later = vec![in alloc; opened()?, reserved(alloc, 1)?, spring]?;
+    assert!(rt; reads(alloc, &[OPEN, RESERVE, MARK, NAMED_2], &later)?);
     Ok(())
 }
 
@@ -514,6 +601,78 @@ fn what_is_no_settlement_is_named(rt: HostRuntime) -> Result<(), Fail> {
     Ok(())
 }
 
+#[test]
+fn what_is_no_mark_is_named(rt: HostRuntime) -> Result<(), Fail> {
+    let alloc = rt.alloc();
+    for part in [&[0x06u8, 0x03] as &[u8], &[0x06], &[0x06, 0x02, 0x00]] {
+        assert!(rt; is_damaged(alloc, &journal(alloc, 1, 2, &[OPEN, part])?, 2)?);
+        assert!(rt; is_damaged(alloc, &journal(alloc, 1, 2, &[OPEN, MARK, part])?, 3)?);
+    }
+    assert!(rt; is_damaged(alloc, &journal(alloc, 1, 2, &[MARK, MARK])?, 2)?);
+    assert!(rt; is_damaged(alloc, &journal(alloc, 1, 2, &[OPEN, MARK, MARK])?, 3)?);
+    // version 1 is read before the mark, and version 2 behind it
+    assert!(rt; is_damaged(alloc, &journal(alloc, 1, 2, &[OPEN_2])?, 1)?);
+    assert!(rt; is_damaged(alloc, &journal(alloc, 1, 2, &[MARK, OPEN])?, 2)?);
+    assert!(rt; is_damaged(alloc, &journal(alloc, 1, 2, &[OPEN, MARK, CLOSE])?, 3)?);
+    Ok(())
+}
+
+/// The first reservation in version 2, with a name of this length of which so many octets are there, and a script of
+/// one octet.
+fn with_name(alloc: Global, length: u8, octets: usize) -> Result<Vec<u8>, Fail> {
+    let mut part = Vec::from_slice(alloc, &RESERVE_2[..38])?;
+    part.push(length)?;
+    for _ in 0..octets {
+        part.push(b'a')?;
+    }
+    part.push(0x00)?;
+    Ok(part)
+}
+
+#[test]
+fn what_is_no_name_is_named(rt: HostRuntime) -> Result<(), Fail> {
+    let alloc = rt.alloc();
+    let longest = with_name(alloc, 32, 32)?;
+    let mut disk = MemDisk::of(alloc, &journal(alloc, 1, 2, &[MARK, OPEN_2, &longest])?)?;
+    assert!(rt; Journal::open(alloc, &mut disk, 1, 2).is_ok());
+    // a name of 33 octets, one that is cut off, and one with no script behind it
+    let long = with_name(alloc, 33, 33)?;
+    let short = with_name(alloc, 32, 8)?;
+    let scriptless = with_name(alloc, 9, 8)?;
+    for part in [&long, &short, &scriptless] {
+        assert!(rt; is_damaged(alloc, &journal(alloc, 1, 2, &[MARK, OPEN_2, part])?, 3)?);
+    }
+    // the moment of an entry isn't below that of the entry before it
+    let early = changed(alloc, RESERVE_2, 21, 0x04)?;
+    let late = changed(alloc, OPEN_2, 21, 0x05)?;
+    assert!(rt; is_damaged(alloc, &journal(alloc, 1, 2, &[MARK, &late, &early])?, 3)?);
+    Ok(())
+}
+
+/// What an opening answers to the first octets of the journal of version 1 with the three entries.
+fn prefix_answer(alloc: Global, octets: &[u8], count: usize) -> Result<Option<LogErr>, Fail> {
+    let mut disk = MemDisk::of(alloc, octets.get(..count).ok_or("so many octets are there")?)?;
+    Ok(Journal::open(alloc, &mut disk, 0, 1).err())
+}
+
+#[test]
+fn each_front_of_a_journal_is_answered(rt: HostRuntime) -> Result<(), Fail> {
+    let alloc = rt.alloc();
+    let octets = journal(alloc, 0, 1, &[OPEN, RESERVE, DONE])?;
+    assert_eq!(rt; octets.len(), 167);
+    for count in 0..167 {
+        let answer = match count {
+            0..=10 => LogErr::Unformatted,
+            11..=74 => LogErr::Damaged(1),
+            75..=135 => LogErr::Damaged(2),
+            _ => LogErr::Damaged(3),
+        };
+        assert_eq!(rt; prefix_answer(alloc, &octets, count)?, Some(answer));
+    }
+    assert_eq!(rt; prefix_answer(alloc, &octets, 167)?, None);
+    Ok(())
+}
+
 /// A disk of these octets whose call fails and leaves this image.
 fn armed(alloc: Global, octets: &[u8], call: u32, image: Image) -> Result<MemDisk, Fail> {
     let mut disk = MemDisk::of(alloc, octets)?;
@@ -533,7 +692,7 @@ fn holds_up_to<D: DiskCalls>(alloc: Global, disk: &mut D, third: bool) -> Result
 /// Whether a stop at this call of an opening and an addition leaves the entry whole or not at all. The calls are sync,
 /// len and read, len and read, and then write, sync, write and sync.
 fn is_whole_or_absent(alloc: Global, call: u32, image: Image) -> Result<bool, Fail> {
-    let octets = journal(alloc, 0, 1, &[OPEN, RESERVE])?;
+    let octets = journal(alloc, 0, 1, &[MARK, OPEN_2, RESERVE_2])?;
     let mut disk = armed(alloc, &octets, call, image)?;
     let answer = added(alloc, &mut disk, done(alloc)?);
     let fails = answer == Err(LogErr::DiskFault(DiskFault::Failed));
@@ -555,7 +714,7 @@ fn a_stop_at_each_call_leaves_the_entry_whole_or_not_at_all(rt: HostRuntime) -> 
 /// Whether a stop after an addition leaves the entry.
 fn is_durable(alloc: Global, image: Image) -> Result<bool, Fail> {
     let mut disk = MemDisk::of(alloc, &journal(alloc, 0, 1, &[OPEN, RESERVE])?)?;
-    if added(alloc, &mut disk, done(alloc)?) != Ok(167) {
+    if added(alloc, &mut disk, done(alloc)?) != Ok(186) {
         return Ok(false);
     }
     let mut stopped = disk.stopped(image)?;
@@ -573,8 +732,8 @@ fn an_entry_that_was_added_is_durable(rt: HostRuntime) -> Result<(), Fail> {
 /// Whether the entries stand after a stop at this call of an opening that cuts octets off: sync, len, read, cut, sync,
 /// len and read.
 fn opens_again(alloc: Global, call: u32, image: Image) -> Result<bool, Fail> {
-    let whole = journal(alloc, 0, 1, &[OPEN, RESERVE])?;
-    let mut octets = journal(alloc, 0, 1, &[OPEN, RESERVE])?;
+    let whole = journal(alloc, 0, 1, &[MARK, OPEN_2, RESERVE_2])?;
+    let mut octets = journal(alloc, 0, 1, &[MARK, OPEN_2, RESERVE_2])?;
     octets.extend_from_slice(&[0xA5, 0, 0, 0, 9])?;
     let mut disk = armed(alloc, &octets, call, image)?;
     let failed = Journal::open(alloc, &mut disk, 0, 1).err();
@@ -588,6 +747,28 @@ fn a_stop_at_each_call_of_an_opening_leaves_the_entries(rt: HostRuntime) -> Resu
     for image in [Image::Old, Image::New, Image::Torn] {
         for call in 1..8 {
             assert!(rt; opens_again(rt.alloc(), call, image)?);
+        }
+    }
+    Ok(())
+}
+
+/// Whether the three entries stand after a stop at this call of the opening that takes the journal over: sync, len and
+/// read, len and read, and then write, sync, write and sync.
+fn is_taken_over(alloc: Global, call: u32, image: Image) -> Result<bool, Fail> {
+    let octets = journal(alloc, 0, 1, &[OPEN, RESERVE, DONE])?;
+    let whole = journal(alloc, 0, 1, &[OPEN, RESERVE, DONE, MARK])?;
+    let mut disk = armed(alloc, &octets, call, image)?;
+    let failed = Journal::open(alloc, &mut disk, 0, 1).err();
+    let fails = failed == Some(LogErr::DiskFault(DiskFault::Failed));
+    let stands = holds_up_to(alloc, &mut disk, true)?;
+    Ok(fails && stands && disk.content() == whole.as_slice())
+}
+
+#[test]
+fn a_stop_at_each_call_of_the_taking_over_leaves_the_entries(rt: HostRuntime) -> Result<(), Fail> {
+    for image in [Image::Old, Image::New, Image::Torn] {
+        for call in 1..10 {
+            assert!(rt; is_taken_over(rt.alloc(), call, image)?);
         }
     }
     Ok(())

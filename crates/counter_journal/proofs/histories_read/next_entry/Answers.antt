@@ -5,5 +5,5 @@ use Rattle.counter_journal.proofs.histories_read.next_entry.Goals as goal
 
 pub returns-then-not-belongs : goal.returns-then-not-belongs
 returns-then-not-belongs c =
-    bad_entry c.args.lane c.args.lanes c.args.history.now.entries c.args.part.now c.in-Some.entry
-    (subst (IsRead c.args.part.now) c.in-Some.is c.in_ok-read_entry.ensures) (sym c.if-not-belongs.ensures)
+    bad_entry c.args.lane c.args.lanes c.args.history.now.entries c.args.version c.args.part.now c.in-Some.entry
+    (subst (IsRead c.args.version c.args.part.now) c.in-Some.is c.in_ok-read_entry.ensures) (sym c.if-not-belongs.ensures)
