@@ -1,5 +1,6 @@
 -- Laws of Opens that wait.
-use Rattle.std.proofs.Common.{◌≡◌, ◌≢◌, ℕ, ◌+◌, ◌%◌, ◌≤◌, ◌<◌, get_or, Bool, true, false, ◌||◌, List, [], ◌∷◌, ◌++◌, length, reverse, All, Some, None, Result, Ok, Err, refl, inl, inr, sym, ap, subst, ◌∙◌, arith}
+use Rattle.std.proofs.Common.{◌≡◌, ◌≢◌, ℕ, ◌+◌, ◌%◌, ◌≤◌, ◌<◌, get_or, Bool, true, false, ◌||◌, List, [], ◌∷◌, ◌++◌, length, reverse, All, Option, Some, None, Result, Ok, Err, refl, inl, inr, sym, ap, subst, ◌∙◌, arith}
+use Rattle.std.specs.Option.{option_or}
 use Rattle.std.specs.List.{list_any}
 use Rattle.std.proofs.lemmas.Bool.{cases_lt, or_from, or_parts}
 use Rattle.std.proofs.lemmas.List.{reverse-append, get_or_default, length-append}
@@ -17,6 +18,7 @@ use Rattle.ota_core.specs.Entry.{is_open_of}
 use Rattle.ota_core.specs.History.{broken_batch}
 use Rattle.ota_core.specs.declared.keysets.KeysetFacts.{KeysetFacts}
 use Rattle.ota_core.specs.declared.entries.Entry.{Entry}
+use Rattle.ota_core.specs.declared.entries.Illegal.{Illegal}
 use Rattle.lane_session.specs.Due.{open_for}
 use Rattle.std.proofs.lemmas.List.Elements.{All-push}
 use Rattle.lane_session.specs.Rows.{Among, IsAddedFor, facts_of}

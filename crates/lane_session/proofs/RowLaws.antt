@@ -25,7 +25,7 @@ use Rattle.plan_reader.specs.declared.plans.Plan.{Plan}
 use Rattle.counter_journal.specs.EntryRanges.{IsEntryOf, IsOfLane}
 use Rattle.counter_journal.specs.JournalReading.{Holds, JournalValue, IsReady}
 use Rattle.lane_session.specs.Rows.{Among, IsAddedFor}
-use Rattle.lane_session.specs.Due.{is_out, is_served, due_counter, reservation_for}
+use Rattle.lane_session.specs.Due.{is_out, is_served, due_counter, reservation_for, IsBatchFor}
 use Rattle.lane_session.specs.Run.{AreAdded, HoldsGrown, HoldsNearly, EndCause, UnlessFailed, IsFullFor, IsRun, IsRowStep}
 use Rattle.lane_session.specs.LiveCounts.{first_some-append, is_same_job-refl}
 use Rattle.lane_session.specs.declared.lanes.Lane.{Lane}
@@ -80,6 +80,11 @@ due_legal past job counter due =
     not_false : (b : Bool) → not b ≡ false → b ≡ true
     not_false true e = refl
     not_false false e = absurd cc
+
+-- so the batch that is due to a row is legal
+pub batch_legal : (past : List Entry) (job : Job) (batch : List Entry) → IsBatchFor past job (Some batch) → broken_batch past batch ≡ None
+batch_legal past job batch due =
+    subst (λ (entries : List Entry). broken_batch past entries ≡ None) (sym due.2) (ap (λ (o : Option Illegal). option_or o None) (due_legal past job due.0 due.1))
 
 some_first : {A : Type 0} (a : Option A) (b : Option A) → is_some b ≡ true → is_some (option_or a b) ≡ true
 some_first None b e = e

@@ -10,6 +10,7 @@ use Rattle.std.proofs.lemmas.List.Elements.{All-head, All-tail, filter-append, f
 use Rattle.std.proofs.lemmas.List.Sorted.{IsPermutation-reverse, list_any-IsPermutation}
 use Rattle.ota_core.specs.Job.{is_same_job}
 use Rattle.ota_core.specs.Entry.{Reservation, reservation_in, is_refusal_of}
+use Rattle.ota_core.specs.HistoryLaws.{reserves_next}
 use Rattle.ota_core.specs.History.{first_some, unless, last_reservation, broken_in_use, broken_counter, next_counter, broken_job, broken, IsLegalPast, IsLegal, live_reservations}
 use Rattle.ota_core.specs.declared.jobs.JobId.{JobId}
 use Rattle.ota_core.specs.declared.entries.Entry.{Entry}
@@ -83,9 +84,8 @@ free_before : (id : JobId) (past : List Entry) (entry : Entry) (place : Reservat
 free_before id past (Open by moment keyset facts) place legal is = absurd cc
 free_before id past (Reserve by moment keyset counter job tar name body) place legal is =
     let same = cond_some (is_same_job job id) (let p : Reservation = record { keyset = keyset; counter = counter } in p) place is in
-    let behind_use = both_hold (broken_in_use keyset past) _ legal in
-    let behind_counter = both_hold (broken_counter counter (next_counter keyset past)) (broken_job past (last_reservation job past)) behind_use.1 in
-    subst (λ (j : JobId). broken_job past (last_reservation j past) ≡ None) (is_same_job-true job id same.0) behind_counter.1
+    subst (λ (j : JobId). broken_job past (last_reservation j past) ≡ None) (is_same_job-true job id same.0)
+    (reserves_next past by moment keyset counter job tar name body legal).2
 free_before id past (Done by moment keyset counter answer) place legal is = absurd cc
 free_before id past (Refused by moment keyset counter status) place legal is = absurd cc
 free_before id past (Close by moment keyset) place legal is = absurd cc

@@ -3,12 +3,12 @@
 ghost use Rattle.std.specs.Prelude.{◌≡◌, ◌≤◌, ◌^◌, ◌<◌, None, Some, IfOk, IfErr, IfSome, is_none, is_some, if◌then◌else◌, option_map, length, reverse, ◌++◌};
 ghost use Rattle.ota_core.specs.History.{broken_in_use, next_counter};
 ghost use Rattle.ota_core.specs.declared.entries.Entry.TheVariants as entry;
-ghost use Rattle.lane_session.specs.Rows.{differs_in, is_as_said};
+ghost use Rattle.lane_session.specs.Rows.{counter_unlike, differs_in, is_as_said};
 ghost use Rattle.lane_session.specs.Due.{is_unopened, is_out, due_counter, reservation_for, open_for};
 
 use ota_core::questions::{
-    has_open, has_refusal, is_same_keyset, keyset_state, last_counter, last_moment, last_reservation,
-    last_reserved,
+    has_open, has_refusal, is_same_keyset, keyset_state, last_counter, last_moment,
+    last_reservation, last_reserved,
 };
 use ota_core::{
     Counter, Entry, History, Job, KeysetFacts, KeysetId, KeysetState, Memory, Octets, Reserved,
@@ -24,16 +24,18 @@ pub fn differs_in(entries: &[Entry], job: &Job) -> Option<Counter>
 {
     match last_reserved(entries, job.id) {
         None => None,
-        Some(reserved) => {
-            if has_refusal(entries, reserved.place()) {
-                return None;
-            }
-            if is_as_said(job, &reserved) {
-                return None;
-            }
-            Some(reserved.counter)
-        }
+        Some(reserved) => counter_unlike(entries, job, &reserved),
     }
+}
+
+/// The counter of a job's last reservation, where that isn't refused and another than the row says.
+fn counter_unlike(entries: &[Entry], job: &Job, reserved: &Reserved) -> Option<Counter>
+    ensures { result ≡ counter_unlike (reverse entries.now) job.now reserved.now }
+{
+    if has_refusal(entries, reserved.place()) || is_as_said(job, reserved) {
+        return None;
+    }
+    Some(reserved.counter)
 }
 
 fn is_as_said(job: &Job, reserved: &Reserved) -> bool
@@ -53,11 +55,7 @@ pub fn is_unopened(history: &History, keyset: KeysetId) -> bool
 }
 
 /// The reservation that is due to a row. None where nothing is.
-pub fn due_reservation(
-    alloc: Global,
-    history: &History,
-    job: &Job,
-) -> Result<Option<Entry>, Memory>
+pub fn due_reservation(alloc: Global, history: &History, job: &Job) -> Result<Option<Entry>, Memory>
     ensures { IfOk result (λ due. due ≡ option_map (reservation_for (reverse history.now.entries) job.now) (due_counter (reverse history.now.entries) job.now)) }
 {
     match due_counter(history, job) {

@@ -220,9 +220,10 @@ fn rows_are_reserved_on_the_lanes_of_their_cards(rt: HostRuntime) -> Result<(), 
     let mut disks = disks(alloc, EVEN_OPENED, ODD, 0)?;
     let lanes = session(alloc, &mut disks, ODD_PLAN)?;
     assert_eq!(rt; lanes.len(), 2);
-    // each entry has a batch of its own: 9 octets beside the 55 of an Open and the 52 of a reservation
-    assert!(rt; goes_on(&lanes[0], 136, 8900, 0, &[(1, 2)]));
-    assert!(rt; goes_on(&lanes[1], 197, 8901, 0, &[(1, 1), (2, 3)]));
+    // the mark of version 2 has 11 octets, and each entry a batch of its own: 9 octets beside the 63 of an Open and the 61
+    // of a reservation
+    assert!(rt; goes_on(&lanes[0], 156, 8900, 0, &[(1, 2)]));
+    assert!(rt; goes_on(&lanes[1], 234, 8901, 0, &[(1, 1), (2, 3)]));
     Ok(())
 }
 
@@ -233,8 +234,8 @@ fn a_second_session_adds_nothing(rt: HostRuntime) -> Result<(), Fail> {
     session(alloc, &mut disks, ODD_PLAN)?;
     let lanes = session(alloc, &mut disks, ODD_PLAN)?;
     assert_eq!(rt; lanes.len(), 2);
-    assert!(rt; goes_on(&lanes[0], 136, 8900, 0, &[(1, 2)]));
-    assert!(rt; goes_on(&lanes[1], 197, 8901, 0, &[(1, 1), (2, 3)]));
+    assert!(rt; goes_on(&lanes[0], 156, 8900, 0, &[(1, 2)]));
+    assert!(rt; goes_on(&lanes[1], 234, 8901, 0, &[(1, 1), (2, 3)]));
     Ok(())
 }
 
@@ -244,13 +245,13 @@ fn a_keyset_that_no_plan_has_is_not_opened(rt: HostRuntime) -> Result<(), Fail> 
     let mut disks = disks(alloc, EVEN, ODD, 0)?;
     let lanes = session(alloc, &mut disks, EVEN_PLAN)?;
     assert_eq!(rt; lanes.len(), 2);
-    assert!(rt; goes_on(&lanes[0], 136, 8900, 0, &[(1, 2)]));
-    assert!(rt; ended(&lanes[1], 11, 0, None));
+    assert!(rt; goes_on(&lanes[0], 164, 8900, 0, &[(1, 2)]));
+    assert!(rt; ended(&lanes[1], 22, 0, None));
     // the plan of a later session has it
     let lanes = session(alloc, &mut disks, ODD_PLAN)?;
     assert_eq!(rt; lanes.len(), 2);
-    assert!(rt; goes_on(&lanes[0], 136, 8900, 0, &[(1, 2)]));
-    assert!(rt; goes_on(&lanes[1], 197, 8901, 0, &[(1, 1), (2, 3)]));
+    assert!(rt; goes_on(&lanes[0], 164, 8900, 0, &[(1, 2)]));
+    assert!(rt; goes_on(&lanes[1], 234, 8901, 0, &[(1, 1), (2, 3)]));
     Ok(())
 }
 
@@ -261,7 +262,7 @@ fn no_counter_behind_the_last_is_reserved(rt: HostRuntime) -> Result<(), Fail> {
     let lanes = session(alloc, &mut disks, ODD_PLAN)?;
     assert_eq!(rt; lanes.len(), 2);
     let last = [(0xFF_FFFF_FFFE, 1)];
-    assert!(rt; goes_on(&lanes[1], 136, 8901, 0xFF_FFFF_FFFD, &last));
+    assert!(rt; goes_on(&lanes[1], 156, 8901, 0xFF_FFFF_FFFD, &last));
     Ok(())
 }
 
@@ -271,7 +272,7 @@ fn a_closed_keyset_is_left(rt: HostRuntime) -> Result<(), Fail> {
     let mut disks = disks(alloc, EVEN, ODD_CLOSED, 0)?;
     let lanes = session(alloc, &mut disks, ODD_PLAN)?;
     assert_eq!(rt; lanes.len(), 2);
-    assert!(rt; ended(&lanes[1], 98, 2, None));
+    assert!(rt; ended(&lanes[1], 109, 2, None));
     Ok(())
 }
 
@@ -283,24 +284,25 @@ fn stops(alloc: Global, call: u64, length: u64, entries: usize) -> Result<bool, 
         return Ok(false);
     }
     let end = Some(LogErr::DiskFault(DiskFault::Failed));
-    let goes_on = goes_on(&lanes[0], 136, 8900, 0, &[(1, 2)]);
+    let goes_on = goes_on(&lanes[0], 156, 8900, 0, &[(1, 2)]);
     // no call follows the one that failed
     let is_last = disks[1].calls().len() as u64 == call;
     Ok(goes_on && is_last && ended(&lanes[1], length, entries, end))
 }
 
-// An opening makes the calls sync, len and read, and len and read; an addition then write, sync, write and sync.
+// An opening makes the calls sync, len and read, and len and read, and adds the mark of version 2 as an addition does: by
+// write, sync, write and sync.
 #[test]
 fn a_lane_whose_disk_fails_stops_alone(rt: HostRuntime) -> Result<(), Fail> {
     let alloc = rt.alloc();
-    for call in 6..10 {
-        assert!(rt; stops(alloc, call, 11, 0)?);
-    }
     for call in 10..14 {
-        assert!(rt; stops(alloc, call, 75, 1)?);
+        assert!(rt; stops(alloc, call, 22, 0)?);
     }
     for call in 14..18 {
-        assert!(rt; stops(alloc, call, 136, 2)?);
+        assert!(rt; stops(alloc, call, 94, 1)?);
+    }
+    for call in 18..22 {
+        assert!(rt; stops(alloc, call, 164, 2)?);
     }
     Ok(())
 }

@@ -117,7 +117,7 @@ module _ {D B C : Type 0} (told : Meaning D B C) (counts : D → Counts) (seen :
 
     opens : (lane : ℕ) (site : D) (read : Reading) → lane < length seen.olds → parts_of (journal_head lane (length seen.olds)) (told.seen (get_or seen.olds lane site)) ≡ read
         → (behind : List ℕ) × (parts : List (List ℕ)) × (read ≡ Opened parts behind)
-    opens lane site read within is = let holds = (held lane site within).1 in (holds.0, _, sym is ∙ holds.1)
+    opens lane site read within is = let holds = (held lane site within).1 in (holds.opens.0, _, sym is ∙ holds.opens.1)
 
     same_histories : (histories : List (List Entry)) → length histories ≡ length seen.olds → HoldBelow told seen.olds histories (length seen.olds) → histories ≡ can.histories
     same_histories histories each hold = same_lists histories can.histories (each ∙ sym can.each) (λ k below. at k (omega (arith, below, each)))

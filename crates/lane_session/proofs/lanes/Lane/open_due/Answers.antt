@@ -10,12 +10,12 @@ pub add-requires-clause-legal : goal.add-requires-clause-legal
 add-requires-clause-legal g c =
     let unopened : is_opened (reverse c.args.self.now.journal.entries) c.args.waiting.items c.args.keyset ≡ false = search (rules, c.if-is_opened.ensures, c.history.ensures.entries, c.deref.ensures.value) in
     let legal = waiting_more (reverse c.args.self.now.journal.entries) c.args.waiting.items c.args.keyset c.in-Some.facts.now c.requires.waiting.legal unopened in
-    search (rules, legal, c.push.ensures.items, c.if-is_err.ensures.negation, c.open_for.ensures)
+    search (rules, legal, c.push.ensures.items, c.if-is_err.ensures.negation, c.open_for-entry.ensures)
 
 pub add-requires-clause-of_lane : goal.add-requires-clause-of_lane
 add-requires-clause-of_lane g c =
-    let pushed : c.push.new.self.items ≡ c.args.waiting.items ++ c.open_for.result ∷ [] = search (rules, c.push.ensures.items, c.if-is_err.ensures.negation) in
-    let here : IsOfLane c.args.self.now.journal.lane c.args.self.now.journal.lanes c.open_for.result =
-    subst (IsOfLane c.args.self.now.journal.lane c.args.self.now.journal.lanes) (sym c.open_for.ensures) c.requires.of_lane in
+    let pushed : c.push.new.self.items ≡ c.args.waiting.items ++ c.open_for-entry.result ∷ [] = search (rules, c.push.ensures.items, c.if-is_err.ensures.negation) in
+    let here : IsOfLane c.args.self.now.journal.lane c.args.self.now.journal.lanes c.open_for-entry.result =
+    subst (IsOfLane c.args.self.now.journal.lane c.args.self.now.journal.lanes) (sym c.open_for-entry.ensures) c.requires.of_lane in
     subst (All (IsOfLane c.args.self.now.journal.lane c.args.self.now.journal.lanes)) (sym pushed)
-    (All-push (IsOfLane c.args.self.now.journal.lane c.args.self.now.journal.lanes) c.args.waiting.items c.open_for.result c.requires.waiting.of_lane here)
+    (All-push (IsOfLane c.args.self.now.journal.lane c.args.self.now.journal.lanes) c.args.waiting.items c.open_for-entry.result c.requires.waiting.of_lane here)
