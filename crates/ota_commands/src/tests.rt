@@ -38,6 +38,12 @@ const EMPTY: &[u8] = &[
     0xA5, 0x4F, 0x54, 0x41, 0x4A, 0x01, 0x00, 0x00, 0x00, 0x01, 0x00,
 ];
 
+/// The journal of lane 0 of 2 with the mark of version 2.
+const FIRST_OF_TWO_MARKED: &[u8] = &[
+    0xA5, 0x4F, 0x54, 0x41, 0x4A, 0x01, 0x00, 0x00, 0x00, 0x02, 0xA5, 0x00, 0x00, 0x00, 0x06, 0x00,
+    0x00, 0x00, 0x02, 0x06, 0x02, 0x00,
+];
+
 /// The journals of lanes 0 and 1 of 2, and of lanes 0 and 1 of 4, without entries.
 const FIRST_OF_TWO: &[u8] = &[
     0xA5, 0x4F, 0x54, 0x41, 0x4A, 0x01, 0x00, 0x00, 0x00, 0x02, 0x00,
@@ -225,7 +231,7 @@ fn a_row_is_reserved(rt: HostRuntime) -> Result<(), Fail> {
     let alloc = rt.alloc();
     let jobs = text_of(alloc, &[HEADER, FIRST])?;
     let report = text_of(alloc, &[REPORT_HEADER, FIRST_RESERVED])?;
-    assert!(rt; came_to(alloc, &with_jobs(&jobs), EMPTY, None, &report, 136)?);
+    assert!(rt; came_to(alloc, &with_jobs(&jobs), EMPTY, None, &report, 164)?);
     Ok(())
 }
 
@@ -234,14 +240,14 @@ fn rows_get_counters_in_order(rt: HostRuntime) -> Result<(), Fail> {
     let alloc = rt.alloc();
     let jobs = text_of(alloc, &[HEADER, FIRST, SECOND])?;
     let report = text_of(alloc, &[REPORT_HEADER, FIRST_RESERVED, SECOND_RESERVED])?;
-    assert!(rt; came_to(alloc, &with_jobs(&jobs), EMPTY, None, &report, 197)?);
+    assert!(rt; came_to(alloc, &with_jobs(&jobs), EMPTY, None, &report, 234)?);
     Ok(())
 }
 
 #[test]
 fn without_rows_nothing_is_added(rt: HostRuntime) -> Result<(), Fail> {
     let alloc = rt.alloc();
-    assert!(rt; came_to(alloc, &with_jobs(HEADER), EMPTY, None, REPORT_HEADER, 11)?);
+    assert!(rt; came_to(alloc, &with_jobs(HEADER), EMPTY, None, REPORT_HEADER, 22)?);
     Ok(())
 }
 
@@ -254,7 +260,7 @@ fn a_reserved_row_is_reserved_once(rt: HostRuntime) -> Result<(), Fail> {
     let before = run(alloc, &with_jobs(&first), sites(alloc, &[EMPTY])?)?;
     let came = run(alloc, &with_jobs(&both), sites_of(before))?;
     assert!(rt; is_end(&came, None, &report));
-    assert_eq!(rt; content(&came, 0).len(), 197);
+    assert_eq!(rt; content(&came, 0).len(), 234);
     Ok(())
 }
 
@@ -263,7 +269,7 @@ fn a_closed_keyset_gives_no_counter(rt: HostRuntime) -> Result<(), Fail> {
     let alloc = rt.alloc();
     let jobs = text_of(alloc, &[HEADER, FIRST])?;
     let report = text_of(alloc, &[REPORT_HEADER, "1,8901,1,unsettled,-,closed\n"])?;
-    assert!(rt; came_to(alloc, &with_jobs(&jobs), CLOSED, None, &report, 98)?);
+    assert!(rt; came_to(alloc, &with_jobs(&jobs), CLOSED, None, &report, 109)?);
     Ok(())
 }
 
@@ -276,7 +282,7 @@ fn a_row_that_differs_from_its_reservation_is_refused(rt: HostRuntime) -> Result
     let came = run(alloc, &with_jobs(&changed), sites_of(before))?;
     assert!(rt; is_end(&came, Some(Fault::JobDiffers(1, Counter(1))), ""));
     assert_eq!(rt; came.ended.status, 14);
-    assert_eq!(rt; content(&came, 0).len(), 136);
+    assert_eq!(rt; content(&came, 0).len(), 164);
     Ok(())
 }
 
@@ -304,7 +310,7 @@ fn a_lane_that_fails_stops_alone(rt: HostRuntime) -> Result<(), Fail> {
     let report = text_of(alloc, &[REPORT_HEADER, FIRST_NEW])?;
     let setting = with(RESERVE_ON_TWO, &jobs);
     let calls = calls_of_two(alloc, &setting)?;
-    let disk = MemDisk::of(alloc, SECOND_OF_TWO)?.failing(vec![in alloc; second_sync(&calls)]?);
+    let disk = MemDisk::of(alloc, SECOND_OF_TWO)?.failing(vec![in alloc; fourth_sync(&calls)]?);
     let first = site(alloc, FIRST_OF_TWO)?;
     let second = BareSite::new(alloc, disk);
     let came = run(alloc, &setting, vec![in alloc; first, second]?)?;
@@ -313,7 +319,7 @@ fn a_lane_that_fails_stops_alone(rt: HostRuntime) -> Result<(), Fail> {
         came.ended.ends.as_slice(),
         [None, Some(Fault::SiteFault(1))].as_slice()
     );
-    assert_eq!(rt; content(&came, 0), FIRST_OF_TWO);
+    assert_eq!(rt; content(&came, 0), FIRST_OF_TWO_MARKED);
     Ok(())
 }
 
@@ -330,15 +336,16 @@ fn calls_of_two(alloc: Global, setting: &Setting) -> Result<Vec<Call>, Fail> {
     }
 }
 
-/// The number, from 1, of the second call that is a sync, and 0 where there is none.
-fn second_sync(calls: &[Call]) -> u64 {
-    let mut is_second = false;
+/// The number, from 1, of the fourth call that is a sync, and 0 where there is none. The first three are those of an
+/// opening that adds the mark of version 2.
+fn fourth_sync(calls: &[Call]) -> u64 {
+    let mut before: u32 = 0;
     for (place, call) in calls.iter().enumerate() {
         if *call == Call::Sync {
-            if is_second {
+            if before == 3 {
                 return place as u64 + 1;
             }
-            is_second = true;
+            before = before.saturating_add(1);
         }
     }
     0
@@ -388,7 +395,7 @@ fn a_stop_at_the_last_call_of_a_reservation_keeps_it_or_not(rt: HostRuntime) -> 
         let (again, entries) = stopped_and_run_again(alloc, &setting, last, image)?;
         assert_eq!(rt; entries, held);
         assert!(rt; is_end(&again, None, &report));
-        assert_eq!(rt; content(&again, 0).len(), 136);
+        assert_eq!(rt; content(&again, 0).len(), 164);
     }
     Ok(())
 }
@@ -405,7 +412,7 @@ fn a_stop_at_each_call_leaves_what_the_next_run_ends(rt: HostRuntime) -> Result<
         for image in [Image::Old, Image::New, Image::Torn] {
             let (again, _) = stopped_and_run_again(alloc, &setting, call, image)?;
             assert!(rt; is_end(&again, None, &report), "call {call}");
-            assert_eq!(rt; content(&again, 0).len(), 136);
+            assert_eq!(rt; content(&again, 0).len(), 164);
         }
     }
     Ok(())
@@ -422,7 +429,7 @@ fn the_message_of_a_reserved_row_is_shown(rt: HostRuntime) -> Result<(), Fail> {
     let reserved = run(alloc, &with_jobs(&jobs), sites_of(before))?;
     let after = run(alloc, &shown, sites_of(reserved))?;
     assert!(rt; is_end(&after, None, &text));
-    assert_eq!(rt; content(&after, 0).len(), 136);
+    assert_eq!(rt; content(&after, 0).len(), 164);
     Ok(())
 }
 
