@@ -13,8 +13,8 @@ use std::rt::Files;
 
 /// A real file as a disk. It holds a path, and opens the file for each call unless it is to be kept open. It tells
 /// nothing of its octets, counts its failures, and answers each as `Failed`. A missing file is an empty disk, and a
-/// write to it creates it. The first sync of each value syncs the file's folder too, since whoever created the file may
-/// have ended before its name was on the disk.
+/// write to it creates it. The first sync of each value that finds the file syncs its folder too, since whoever created
+/// the file may have ended before its name was on the disk.
 #[derive(Drop)]
 pub struct FileDisk<R: Files> {
     rt: R,
@@ -22,7 +22,7 @@ pub struct FileDisk<R: Files> {
     keeps_open: bool,
     // The file, from its first write on, where it is kept open.
     kept: Option<R::File>,
-    // The file's name was brought to the disk since this value, or the file, was made.
+    // The folder was synced since this value, or the file, was made.
     is_named: bool,
     faults: u64,
 }

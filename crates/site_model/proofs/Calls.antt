@@ -12,7 +12,8 @@ use Rattle.site_model.specs.declared.moments.Given.{Given}
 use Rattle.site_model.specs.declared.moments.Moment.{Moment}
 use Rattle.site_model.specs.declared.moments.Moment.TheVariants.{Disk, Sent, Gave, Polled}
 use Rattle.site_model.specs.Port.{PortState, IsSending, IsPolling}
-use Rattle.site_model.specs.Cards.{Keeps, Begins}
+use Rattle.world_core.specs.Members.{Begins}
+use Rattle.site_model.specs.Cards.{Keeps}
 use Rattle.site_model.specs.Runs.{PortRun}
 use Rattle.site_model.specs.Moments.{ports, disks, sent_in, given_in, polls_in, port_after, past_by, moments_after, ports-append, sent_in-append, given_in-append, polls_in-append, all_past}
 use Rattle.site_model.specs.BareTold.{site_told}

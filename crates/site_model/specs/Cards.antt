@@ -1,21 +1,17 @@
 -- What the cards of a site keep while the port works.
-use Rattle.std.specs.Prelude.{◌≡◌, ◌⊎◌, ℕ, ◌<◌, ◌≤◌, true, List, [], ◌∷◌, ◌++◌, Some}
+use Rattle.std.specs.Prelude.{◌≡◌, ◌⊎◌, ℕ, ◌<◌, ◌≤◌, true, List, [], ◌∷◌, ◌++◌}
 use Rattle.ota_core.specs.declared.cards.CardFacts.{CardFacts}
-use Rattle.ota_core.specs.declared.keysets.KeysetFacts.{KeysetFacts}
 use Rattle.disk_model.specs.Disk.{Meaning}
-use Rattle.world_core.specs.Members.{In}
-use Rattle.world_core.specs.Card.{facts_under, stored_counter, IsLine, IsCardState}
+use Rattle.world_core.specs.Members.{In, Begins}
+use Rattle.world_core.specs.Card.{base_of, stored_counter, IsLine, IsCardState}
 use Rattle.world_core.specs.declared.answers.Made.{Made}
 use Rattle.world_core.specs.declared.lines.Line.{Line}
 use Rattle.site_model.specs.Port.{PortState}
 
--- a line that the card may log behind these: its keyset is one of the card's, and its counter is above the one that the
--- card has stored for it
+-- a line that the card may log behind these: its counter is above the one that the card has stored for its keyset
 pub record MayFollow (facts : CardFacts) (before : List Line) (line : Line) : Type 0 where
   pub is_line : IsLine facts line
-  pub own : KeysetFacts
-  pub is_own : facts_under line.keyset.kvn facts.keysets ≡ Some own
-  pub above : stored_counter own.base line.keyset before < line.counter
+  pub above : stored_counter (base_of facts line.keyset) line.keyset before < line.counter
 
 abbrev pub MayFollowAll : CardFacts → List Line → List Line → Type 0
 MayFollowAll facts before [] = Unit {0}
@@ -53,18 +49,12 @@ pub record IsLineOf (made : Made) (line : Line) : Type 0 where
 abbrev pub IsTaken : ℕ → Type 0
 IsTaken status = (status ≡ 0x00) ⊎ (status ≡ 0x07) ⊎ (status ≡ 0x09)
 
--- an answer of one of these cards, under a keyset that the card has
+-- an answer of one of these cards, under a keyset of the same card
 pub record IsOfCards (cards : List CardFacts) (made : Made) : Type 0 where
   pub card : CardFacts
   pub is_there : In card cards
   pub of_card : made.card ≡ card.card
   pub of_keyset : made.keyset.card ≡ card.card
-  pub own : KeysetFacts
-  pub is_own : facts_under made.keyset.kvn card.keysets ≡ Some own
-
--- one list is the other and what joined it
-abbrev pub Begins : {X : Type 0} → List X → List X → Type 0
-Begins {X = X} before now = (more : List X) × (now ≡ before ++ more)
 
 module _ {D B C : Type 0} (told : Meaning D B C) (port : B → PortState) (lines : C → ℕ → List Line) where
   abbrev pub port_at : D → ℕ → PortState
