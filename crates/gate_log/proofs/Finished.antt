@@ -1,15 +1,18 @@
 -- How a reading ends.
-use Rattle.std.proofs.Common.{◌≡◌, ◌⊎◌, ℕ, ◌+◌, ◌-◌, ◌≤◌, List, [], ◌++◌, length, take, drop, refl, inl, inr, sym, ◌∙◌, ap, subst, arith, length-append, length-drop}
+use Rattle.std.proofs.Common.{◌≡◌, ◌⊎◌, ℕ, ◌+◌, ◌-◌, ◌≤◌, List, [], ◌++◌, length, take, drop, refl, inl, inr, ⊎_elim, sym, ◌∙◌, ap, subst, arith, length-append, length-drop, length-take}
 use Rattle.std.proofs.lemmas.List.{append-nil}
-use Rattle.disk_model.specs.Disk.{Meaning, DiskRun, Cut, image_now}
-use Rattle.disk_model.specs.Runs.{weaker}
+use Rattle.std.specs.Prelude.{Result, Ok, Err, IfOk}
+use Rattle.disk_model.specs.Disk.{Meaning, DiskRun, Cut, Only, image_now}
+use Rattle.disk_model.specs.Runs.{weaker, joined, left_now}
 use Rattle.gate_log.specs.declared.standings.Standing.TheVariants as standing
 use Rattle.gate_log.specs.Reading.{parts_of}
 use Rattle.gate_log.specs.Reading.Reading.{Opened}
-use Rattle.gate_log.specs.Answers.{OpensAt}
-use Rattle.gate_log.specs.Opening.{OpensAlike}
+use Rattle.gate_log.specs.declared.log_errors.LogErr.{LogErr}
+use Rattle.gate_log.specs.declared.log_errors.LogErr.TheVariants as log_err
+use Rattle.gate_log.specs.Answers.{OpensAt, Answers, UnlessFault}
+use Rattle.gate_log.specs.Opening.{OpensAlike, IsOpened, IsOpenLog}
 use Rattle.gate_log.specs.Windows.{rest_of}
-use Rattle.gate_log.specs.Readers.{ReaderState, in_front, IsReading, IsOpenedWith}
+use Rattle.gate_log.specs.Readers.{ReaderState, in_front, IsReading, IsOpenedWith, FinishAnswer}
 use Rattle.gate_log.specs.Readings.{cut_again}
 use Rattle.gate_log.proofs.Opened.{cut_alike}
 use Rattle.gate_log.proofs.ReaderParts.{left_by}
@@ -45,3 +48,35 @@ module _ {D B C : Type 0} (told : Meaning D B C) where
       → DiskRun told old new (λ image. image_now told old image ⊎ OpensAlike head (told.seen old) image)
   finish_run old new head len at run =
       weaker told old new (Cut len (told.seen old)) (λ image. image_now told old image ⊎ OpensAlike head (told.seen old) image) run (λ image cut. inr (cut_alike head (told.seen old) len at image cut))
+
+-- ---- a log that is opened
+
+pub opened_answer : (head old new : List ℕ) (parts : List (List ℕ)) (result : Result ℕ LogErr) → FinishAnswer head old new parts result → Answers (IsOpened head old new) (parts_of head old) result
+opened_answer head old new parts (Ok len) is = record { parts = parts; behind = is.behind; was = is.was; is = is.is; cut = is.cut; long = is.long }
+opened_answer head old new parts (Err log_err.Memory) is = absurd is
+opened_answer head old new parts (Err (log_err.DiskFault fault)) is = tt
+opened_answer head old new parts (Err log_err.Unformatted) is = absurd is
+opened_answer head old new parts (Err log_err.NotALog) is = absurd is
+opened_answer head old new parts (Err (log_err.OtherHead rest)) is = absurd is
+opened_answer head old new parts (Err (log_err.Damaged number)) is = (parts, is.0, is.1)
+opened_answer head old new parts (Err (log_err.Full long need)) is = absurd is
+
+module _ {D B C : Type 0} (told : Meaning D B C) where
+  pub opened_settled : (new : D) (head old : List ℕ) (parts : List (List ℕ)) (result : Result ℕ LogErr) → FinishAnswer head old (told.seen new) parts result
+      → UnlessFault result (Only (told.seen new) (image_now told new)) → IfOk result (IsOpenLog told new)
+  opened_settled new head old parts (Ok len) is only = record {
+    only = only;
+    long = ap length is.cut ∙ omega (arith, length-take len old, is.long);
+    opens = (head, parts, is.is);
+  }
+  opened_settled new head old parts (Err error) is only = tt
+
+  pub opened_moments : (old mid new : D) (head : List ℕ) → DiskRun told old mid (image_now told old) → told.seen mid ≡ told.seen old
+      → DiskRun told mid new (λ image. image_now told mid image ⊎ OpensAlike head (told.seen mid) image)
+      → DiskRun told old new (λ image. image_now told old image ⊎ OpensAlike head (told.seen old) image)
+  opened_moments old mid new head first same second =
+      let P : List ℕ → Type 0 = λ image. image_now told old image ⊎ OpensAlike head (told.seen old) image in
+      joined told old mid new P
+      (weaker told old mid (image_now told old) P first (λ image now. inl now))
+      (weaker told mid new (λ image. image_now told mid image ⊎ OpensAlike head (told.seen mid) image) P second
+      (λ image at. ⊎_elim (λ now. inl (left_now told old mid (image_now told old) first image now)) (λ alike. inr (subst (λ (t : List ℕ). OpensAlike head t image) same alike)) at))
