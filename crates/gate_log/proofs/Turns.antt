@@ -1,5 +1,5 @@
 -- The loops that read a log to its end.
-use Rattle.std.proofs.Common.{◌≡◌, ℕ, List, Bool, refl, sym, ◌∙◌, ap, subst}
+use Rattle.std.proofs.Common.{◌≡◌, ℕ, List, Bool, refl, sym, ◌∙◌, subst}
 use Rattle.disk_model.specs.Counts.{Counts}
 use Rattle.disk_model.specs.Disk.{Meaning, Tells, image_now, DiskRun}
 use Rattle.disk_model.specs.Runs.{at_once}

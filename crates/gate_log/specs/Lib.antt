@@ -14,7 +14,6 @@ pub mod BatchesRead
 pub mod Readers
 pub mod ReaderKept
 pub mod ReaderSteps
-pub mod Steps
 pub mod Opening
 pub mod Formatting
 pub mod Batches

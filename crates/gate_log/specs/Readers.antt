@@ -1,12 +1,11 @@
 -- A log as it is read part by part.
-use Rattle.std.specs.Prelude.{◌≡◌, ◌⊎◌, ℕ, ◌+◌, ◌-◌, ◌<◌, ◌≤◌, Bool, true, false, is_some, unwrap_or, List, [], ◌∷◌, ◌++◌, length, take, drop, Result, Ok, Err}
-use Rattle.disk_model.specs.declared.faults.DiskFault.TheVariants as fault
+use Rattle.std.specs.Prelude.{◌≡◌, ◌⊎◌, ℕ, ◌+◌, ◌-◌, ◌<◌, ◌≤◌, Bool, true, false, unwrap_or, List, [], ◌∷◌, ◌++◌, length, take, Result, Ok, Err}
 use Rattle.gate_log.specs.declared.log_errors.LogErr.{LogErr}
 use Rattle.gate_log.specs.declared.log_errors.LogErr.TheVariants as log_err
 use Rattle.gate_log.specs.declared.standings.Standing.{Standing}
 use Rattle.gate_log.specs.declared.standings.Standing.TheVariants as standing
 use Rattle.gate_log.specs.Reading.{Reading, parts_from, parts_of, behind_parts, walk_from, reading_of_walk}
-use Rattle.gate_log.specs.Reading.Reading.{Unformatted, NotALog, OtherHead, Damaged, Opened}
+use Rattle.gate_log.specs.Reading.Reading.{Damaged, Opened}
 use Rattle.gate_log.specs.Windows.{WindowsState, rest_of, windows_in}
 
 -- what contracts see of a reading: how many parts were given, the last of them, the octets of its batch that are still

@@ -1,13 +1,12 @@
 -- How calls that only look at a disk go on, one after another.
-use Rattle.std.specs.Prelude.{◌≡◌, ℕ, ◌+◌, ◌≤◌, List, length, Result, Ok, Err, IfErr, OnOk, IsTrue, refl}
+use Rattle.std.specs.Prelude.{◌≡◌, ℕ, ◌+◌, ◌≤◌, List, length, Result, Ok, Err, OnOk, IsTrue, refl}
 use Rattle.std.proofs.Common.{sym, ◌∙◌, ap, subst, arith}
 use Rattle.disk_model.specs.Counts.{Counts}
 use Rattle.disk_model.specs.Disk.{Meaning, Tells, Only, image_now, DiskRun}
 use Rattle.disk_model.specs.Runs.{joined, weaker, left_now, at_once}
-use Rattle.disk_model.specs.declared.faults.DiskFault.TheVariants as fault
 use Rattle.gate_log.specs.declared.log_errors.LogErr.{LogErr}
 use Rattle.gate_log.specs.declared.log_errors.LogErr.TheVariants as log_err
-use Rattle.gate_log.specs.Answers.{LogCause, ErrCause, UnlessFault, IsWantOrFault}
+use Rattle.gate_log.specs.Answers.{LogCause, UnlessFault}
 use Rattle.gate_log.specs.Windows.{WindowsState, windows_in, ReadTicks, Looks}
 
 module _ {D B C : Type 0} (told : Meaning D B C) where

@@ -16,7 +16,6 @@ mod logs;
 mod measures;
 mod readers;
 mod standings;
-mod walks;
 mod windows;
 
 pub use appends::append;

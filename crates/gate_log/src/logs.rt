@@ -4,7 +4,7 @@ ghost use Rattle.std.specs.Prelude.{◌≡◌, ◌⊎◌, ℕ, ◌+◌, ◌^◌,
 ghost use Rattle.disk_model.specs.Disk.{Tells, image_now, DiskRun, Only};
 ghost use Rattle.gate_log.specs.Reading.{parts_of, OpensTo};
 ghost use Rattle.gate_log.specs.Reading.Reading.{Opened, Damaged};
-ghost use Rattle.gate_log.specs.Answers.{LogCause, UnlessFault, Answers, OpensAt, IsNotFull, IsNotDamaged, IsOwn};
+ghost use Rattle.gate_log.specs.Answers.{LogCause, UnlessFault, Answers, IsNotFull, IsNotDamaged};
 ghost use Rattle.gate_log.specs.Opening.{OpensAlike, IsOpened, IsOpenLog, AppendAnswer, AppendTicks, need_of};
 ghost use Rattle.gate_log.specs.Append.{opened_with};
 ghost use Rattle.gate_log.specs.Batches.{framed};

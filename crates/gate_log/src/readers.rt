@@ -13,11 +13,11 @@ ghost use Rattle.gate_log.specs.declared.standings.Standing.TheVariants.{Going, 
 
 use crate::batches_read::read_step;
 use crate::contents::cut_behind;
+use crate::headings::check_heading;
 use crate::log_errors::LogErr;
 use crate::logs::Log;
 use crate::measures::measured;
 use crate::standings::Standing;
-use crate::walks::check_heading;
 use crate::windows::Windows;
 use disk_model::DiskCalls;
 use ota_core::Octets;

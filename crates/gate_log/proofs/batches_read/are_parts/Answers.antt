@@ -1,5 +1,4 @@
 use Rattle.std.proofs.Common.{◌≡◌, ◌<◌, length, sym, ◌∙◌, arith}
-use Rattle.gate_log.proofs.Loops.{parts_smaller}
 use Rattle.gate_log.proofs.Framed.{are_turn, are_stop, are_end}
 use Rattle.gate_log.proofs.batches_read.are_parts.Goals as goal
 

@@ -1,6 +1,6 @@
-use Rattle.std.proofs.Common.{◌≡◌, ◌<◌, ◌-◌, List, ℕ, false, true, take, drop, length, sym, ◌∙◌, ap, arith, length-append, length-drop}
+use Rattle.std.proofs.Common.{◌≡◌, ◌<◌, ◌-◌, false, true, take, drop, length, sym, ◌∙◌, ap, arith, length-append, length-drop}
 use Rattle.std.proofs.lemmas.List.{take_rest}
-use Rattle.gate_log.specs.Windows.{rest_of, IsTakenOrShort, IsTaken}
+use Rattle.gate_log.specs.Windows.{rest_of, IsTaken}
 use Rattle.gate_log.specs.BatchesRead.{is_framed}
 use Rattle.gate_log.proofs.Framed.{behind_room}
 use Rattle.gate_log.proofs.batches_read.read_body.Goals as goal

@@ -1,6 +1,5 @@
-use Rattle.std.proofs.Common.{◌≡◌, List, ℕ, [], ◌∷◌, ◌++◌, true, false, sym, ◌∙◌, ap, subst}
-use Rattle.gate_log.specs.Readers.{IsReading, IsReadTo, IsReadOn}
-use Rattle.gate_log.specs.Reading.{parts_of}
+use Rattle.std.proofs.Common.{◌≡◌, List, ℕ, [], ◌∷◌, ◌++◌, sym, ◌∙◌, ap, subst}
+use Rattle.gate_log.specs.Readers.{IsReading}
 use Rattle.gate_log.proofs.Turns.{looked_on, turn_seen}
 use Rattle.gate_log.proofs.readers.read_parts.Goals as goal
 

@@ -1,5 +1,3 @@
-use Rattle.std.proofs.Common.{◌≡◌, ◌≤◌, ◌+◌, length, ◌∙◌, ap, sym}
-use Rattle.gate_log.specs.declared.standings.Standing.TheVariants as standing
 use Rattle.gate_log.proofs.Finished.{ends_at, opened_with, finish_run}
 use Rattle.gate_log.proofs.readers.LogReader.finish.Goals as goal
 

@@ -1,5 +1,5 @@
-use Rattle.std.proofs.Common.{◌≡◌, List, ℕ, sym, ap, subst, ◌∙◌}
-use Rattle.gate_log.specs.Readers.{ReaderState, IsReadOn}
+use Rattle.std.proofs.Common.{List, ℕ, sym, subst}
+use Rattle.gate_log.specs.Readers.{IsReadOn}
 use Rattle.gate_log.proofs.ReaderParts.{read_on, counted_on}
 use Rattle.gate_log.proofs.readers.LogReader.next_part.Goals as goal
 
