@@ -1,13 +1,12 @@
 -- The answers of a log: which come when.
-use Rattle.std.specs.Prelude.{◌≡◌, ℕ, ◌+◌, ◌≤◌, List, length, Option, Some, None, Result, Ok, Err}
+use Rattle.std.specs.Prelude.{◌≡◌, ℕ, ◌+◌, ◌≤◌, List, length, Result, Ok, Err}
 use Rattle.disk_model.specs.Counts.{Counts, HasRisen}
 use Rattle.disk_model.specs.declared.faults.DiskFault.TheVariants as fault
 use Rattle.gate_log.specs.declared.headings.Heading.{Heading}
 use Rattle.gate_log.specs.declared.headings.Heading.TheVariants as heading
 use Rattle.gate_log.specs.declared.log_errors.LogErr.{LogErr}
 use Rattle.gate_log.specs.declared.log_errors.LogErr.TheVariants as log_err
-use Rattle.gate_log.specs.Reading.{Walk, Reading}
-use Rattle.gate_log.specs.Reading.Walk.{Ended, Broken}
+use Rattle.gate_log.specs.Reading.{Reading}
 use Rattle.gate_log.specs.Reading.Reading.{Unformatted, NotALog, OtherHead, Damaged, Opened}
 
 -- A fault of the disk comes only where its count rose. With every other answer the counts stay.
@@ -65,22 +64,6 @@ heading_answer heading.Unformatted = Err log_err.Unformatted
 heading_answer heading.NotALog = Err log_err.NotALog
 heading_answer (heading.OtherHead rest) = Err (log_err.OtherHead rest)
 heading_answer heading.Formatted = Ok tt
-
--- what a walk found: its parts, and how many octets lie behind the closed gate, or None where a batch is damaged
-abbrev pub IsFound : List (List ℕ) → Option ℕ → Walk → Type 0
-IsFound parts (Some size) walk = (behind : List ℕ) × (walk ≡ Ended parts behind) × (length behind ≡ size)
-IsFound parts None walk = walk ≡ Broken parts
-
--- the same for a log's octets
-abbrev pub IsRead : List (List ℕ) → Option ℕ → Reading → Type 0
-IsRead parts (Some size) read = (behind : List ℕ) × (read ≡ Opened parts behind) × (length behind ≡ size)
-IsRead parts None read = read ≡ Damaged parts
-
--- no call of the disk answered it, and no batch was refused for want of room
-abbrev pub IsOwn : LogErr → Type 0
-IsOwn (log_err.DiskFault fault) = ⊥
-IsOwn (log_err.Full length need) = ⊥
-IsOwn error = Unit {0}
 
 -- memory was wanting, or the disk answered a fault
 abbrev pub IsWantOrFault : LogErr → Type 0

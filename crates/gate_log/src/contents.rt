@@ -9,36 +9,6 @@ use crate::log_errors::LogErr;
 use disk_model::{DiskCalls, DiskFault};
 use std::alloc::Global;
 
-/// All octets of a disk.
-pub(crate) fn read_all<D: DiskCalls>(alloc: Global, disk: &mut D) -> Result<Vec<u8>, LogErr>
-    ensures octets { Tells D.told disk.old → IfOk result (λ octets. octets.items ≡ D.told.seen disk.old) }
-    ensures content { Tells D.told disk.old → UnlessFault result (D.told.seen disk.new ≡ D.told.seen disk.old) }
-    ensures moments { Tells D.told disk.old → DiskRun D.told disk.old disk.new (image_now D.told disk.old) }
-    ensures tells { D.told.tells disk.new ≡ D.told.tells disk.old }
-    ensures cause { LogCause (D.counts disk.old) (D.counts disk.new) result }
-    ensures answer { IfErr result IsWantOrFault }
-{
-    let len = disk.len()? as usize;
-    let mut octets = vec![in alloc; 0u8; len]?;
-    let count = disk.read_at(0, &mut octets)?;
-    octets.truncate(count);
-    Ok(octets)
-}
-
-/// All octets of a disk, which a stop leaves as they are from now on.
-pub(crate) fn read_synced<D: DiskCalls>(alloc: Global, disk: &mut D) -> Result<Vec<u8>, LogErr>
-    ensures octets { Tells D.told disk.old → IfOk result (λ octets. octets.items ≡ D.told.seen disk.old) }
-    ensures content { Tells D.told disk.old → UnlessFault result (D.told.seen disk.new ≡ D.told.seen disk.old) }
-    ensures durable { Tells D.told disk.old → UnlessFault result (Only (D.told.seen disk.old) (image_now D.told disk.new)) }
-    ensures moments { Tells D.told disk.old → DiskRun D.told disk.old disk.new (image_now D.told disk.old) }
-    ensures tells { D.told.tells disk.new ≡ D.told.tells disk.old }
-    ensures cause { LogCause (D.counts disk.old) (D.counts disk.new) result }
-    ensures answer { IfErr result IsWantOrFault }
-{
-    disk.sync()?;
-    read_all(alloc, disk)
-}
-
 /// Cuts off what lies behind a length, where anything does, and syncs.
 pub(crate) fn cut_behind<D: DiskCalls>(disk: &mut D, len: u64, end: u64) -> Result<(), DiskFault>
     requires within { end ≤ len }

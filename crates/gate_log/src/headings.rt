@@ -1,6 +1,9 @@
-ghost use Rattle.std.specs.Prelude.{◌≡◌, ◌≤◌, length};
+ghost use Rattle.std.specs.Prelude.{◌≡◌, ◌≤◌, length, OnOk};
+ghost use Rattle.gate_log.specs.Answers.{heading_answer};
 ghost use Rattle.gate_log.specs.Reading.{is_unformatted, is_half_made, is_log, heading_of};
 ghost use Rattle.std.specs.Str.{bytes_eq};
+
+use crate::log_errors::LogErr;
 
 /// The mark in front of a log that is made.
 const MARK: u8 = 0xA5;
@@ -61,4 +64,17 @@ fn are_same(one: &[u8], other: &[u8]) -> bool
     ensures { result ≡ bytes_eq one.now other.now }
 {
     one == other
+}
+
+/// Whether the octets begin as a log with this head.
+pub(crate) fn check_heading(octets: &[u8], head: &[u8; 9]) -> Result<(), LogErr>
+    ensures answer { result ≡ heading_answer (heading_of head.now octets.now) }
+    ensures long { OnOk result (11 ≤ length octets.now) }
+{
+    match heading_of(octets, head) {
+        Heading::Unformatted => Err(LogErr::Unformatted),
+        Heading::NotALog => Err(LogErr::NotALog),
+        Heading::OtherHead(rest) => Err(LogErr::OtherHead(rest)),
+        Heading::Formatted => Ok(()),
+    }
 }

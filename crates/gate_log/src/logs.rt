@@ -4,7 +4,7 @@ ghost use Rattle.std.specs.Prelude.{◌≡◌, ◌⊎◌, ℕ, ◌+◌, ◌^◌,
 ghost use Rattle.disk_model.specs.Disk.{Tells, image_now, DiskRun, Only};
 ghost use Rattle.gate_log.specs.Reading.{parts_of, OpensTo};
 ghost use Rattle.gate_log.specs.Reading.Reading.{Opened, Damaged};
-ghost use Rattle.gate_log.specs.Answers.{LogCause, UnlessFault, Answers, OpensAt, IsNotFull, IsNotDamaged, IsOwn};
+ghost use Rattle.gate_log.specs.Answers.{LogCause, UnlessFault, Answers, IsNotFull, IsNotDamaged};
 ghost use Rattle.gate_log.specs.Opening.{OpensAlike, IsOpened, IsOpenLog, AppendAnswer, AppendTicks, need_of};
 ghost use Rattle.gate_log.specs.Append.{opened_with};
 ghost use Rattle.gate_log.specs.Batches.{framed};
@@ -12,9 +12,8 @@ ghost use Rattle.gate_log.specs.declared.log_errors.LogErr.TheVariants as log_er
 
 use crate::appends::append;
 use crate::batches::Batch;
-use crate::contents::{cut_behind, read_all, read_synced};
 use crate::log_errors::LogErr;
-use crate::walks::find;
+use crate::readers::{LogReader, read_parts, read_through};
 use disk_model::DiskCalls;
 use ota_core::Octets;
 use std::alloc::Global;
@@ -40,6 +39,15 @@ impl Model for Log {
 const LIMIT: u64 = 16_777_216;
 
 impl Log {
+    /// A log of this length in octets.
+    pub(crate) fn of_length(len: u64) -> Log
+        requires long { 11 ≤ len }
+        requires fits { len < 2 ^ 63 }
+        ensures { result ≡ len }
+    {
+        Log { len }
+    }
+
     /// The log's length in octets.
     pub fn length(&self) -> u64
         ensures { result ≡ self.now }
@@ -99,30 +107,9 @@ pub fn open<D: DiskCalls>(alloc: Global, disk: &mut D, head: [u8; 9]) -> Result<
     ensures cause { LogCause (D.counts disk.old) (D.counts disk.new) result }
     ensures not_full { IfErr result IsNotFull }
 {
-    let octets = read_synced(alloc, disk)?;
-    let end = end_of(alloc, &octets, &head)?;
-    cut_behind(disk, octets.len() as u64, end as u64)?;
-    Ok(Log { len: end as u64 })
-}
-
-/// The place behind the gate that ends a log.
-fn end_of(alloc: Global, octets: &[u8], head: &[u8; 9]) -> Result<usize, LogErr>
-    ensures answer { Answers (OpensAt (parts_of head.now octets.now) (length octets.now)) (parts_of head.now octets.now) result }
-    ensures within { IfOk result (λ end. (11 ≤ end) × (end ≤ length octets.now)) }
-    ensures own { IfErr result IsOwn }
-{
-    let found = find(alloc, octets, head)?;
-    match found.behind {
-        Some(behind) => Ok(octets.len() - behind),
-        None => Err(damaged(&found.parts)),
-    }
-}
-
-/// The refusal of a batch behind these parts.
-fn damaged(parts: &[Octets]) -> LogErr
-    ensures { result ≡ log_err.Damaged (length parts.now + 1) }
-{
-    LogErr::Damaged(parts.len() as u64 + 1)
+    let mut reader = LogReader::begin(alloc, disk, head)?;
+    read_through(&mut reader, disk)?;
+    reader.finish(disk)
 }
 
 /// The parts of a log, in order.
@@ -138,12 +125,10 @@ pub fn records<D: DiskCalls>(
     ensures cause { LogCause (D.counts disk.old) (D.counts disk.new) result }
     ensures not_full { IfErr result IsNotFull }
 {
-    let octets = read_all(alloc, disk)?;
-    let found = find(alloc, &octets, &head)?;
-    match found.behind {
-        Some(_) => Ok(found.parts),
-        None => Err(damaged(&found.parts)),
-    }
+    let mut reader = LogReader::look(alloc, disk, head)?;
+    let parts = read_parts(alloc, &mut reader, disk)?;
+    reader.ending()?;
+    Ok(parts)
 }
 
 /// The parts of a log up to the gate that ends it, or up to the first batch that is damaged. It never answers `Damaged`.
@@ -160,6 +145,6 @@ pub fn sound_records<D: DiskCalls>(
     ensures not_full { IfErr result IsNotFull }
     ensures not_damaged { IfErr result IsNotDamaged }
 {
-    let octets = read_all(alloc, disk)?;
-    Ok(find(alloc, &octets, &head)?.parts)
+    let mut reader = LogReader::look(alloc, disk, head)?;
+    read_parts(alloc, &mut reader, disk)
 }

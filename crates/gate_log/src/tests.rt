@@ -1,8 +1,8 @@
 // Logs on disks in memory: their octets, their refusals, and what stands after a stop at each call.
 ghost use Rattle.std.specs.Prelude.{◌≤◌, length};
 
-use crate::{Batch, LogErr, format, open, records, sound_records};
-use disk_model::{DiskCalls, DiskFault, Image, MemDisk, SimCalls};
+use crate::{Batch, LogErr, LogReader, format, open, records, sound_records};
+use disk_model::{Call, DiskCalls, DiskFault, Image, MemDisk, SimCalls};
 use ota_core::Octets;
 use std::alloc::Global;
 use std::test::Fail;
@@ -319,4 +319,83 @@ fn put_one<D: DiskCalls>(alloc: Global, disk: &mut D, part: &[u8]) -> Result<u64
     batch.clear();
     batch.put(part);
     added(alloc, disk, &batch)
+}
+
+/// A log of so many batches of two parts: one of 3 octets and one of 60,000.
+fn log_of_batches(alloc: Global, batches: u32) -> Result<Vec<u8>, Fail> {
+    let mut octets = EMPTY[..10].to_vec(alloc)?;
+    for _ in 0..batches {
+        octets.extend_from_slice(&[0xA5, 0x00, 0x00, 0xEA, 0x6B, 0, 0, 0, 3, 1, 2, 3])?;
+        octets.extend_from_slice(&[0x00, 0x00, 0xEA, 0x60])?;
+        octets.extend_from_slice(&vec![in alloc; 7u8; 60_000]?)?;
+    }
+    octets.push(0)?;
+    Ok(octets)
+}
+
+/// The calls that read so many octets: sync, len, and windows of 65,536 octets, one behind the other.
+fn are_windows(calls: &[Call], len: u64) -> bool {
+    let mut at = 0;
+    for call in calls {
+        match call {
+            Call::Read { at: from, len: size } => {
+                if *from != at || *size > 65_536 {
+                    return false;
+                }
+                at = from.saturating_add(*size);
+            }
+            Call::Sync | Call::Len => {}
+            _ => return false,
+        }
+    }
+    at == len
+}
+
+#[test]
+fn opening_reads_windows(rt: HostRuntime) -> Result<(), Fail> {
+    let alloc = rt.alloc();
+    // five windows, the fourth part of each batch in the next
+    let octets = log_of_batches(alloc, 5)?;
+    assert_eq!(rt; octets.len(), 300_091);
+    let mut disk = MemDisk::of(alloc, &octets)?;
+    assert_eq!(rt; opened(alloc, &mut disk), Ok(300_091));
+    assert_eq!(rt; disk.calls().len(), 7);
+    assert!(rt; are_windows(disk.calls(), 300_091));
+    let mut again = MemDisk::of(alloc, &octets)?;
+    let parts = records(alloc, &mut again, HEAD);
+    assert!(rt; are_windows(again.calls(), 300_091));
+    match parts {
+        Ok(parts) => {
+            assert_eq!(rt; parts.len(), 10);
+            assert_eq!(rt; parts[8].as_slice(), [1, 2, 3].as_slice());
+            assert_eq!(rt; parts[9].as_slice().len(), 60_000);
+        }
+        Err(_) => assert!(rt; false),
+    }
+    Ok(())
+}
+
+/// The number of the first part that doesn't begin with 1, once the whole log is read and opened.
+fn first_wrong<D: DiskCalls>(alloc: Global, disk: &mut D) -> Result<u64, LogErr> {
+    let mut reader = LogReader::begin(alloc, disk, HEAD)?;
+    let mut wrong = 0;
+    while reader.next_part(disk)? {
+        let part = reader.part();
+        if wrong == 0 && (part.is_empty() || part[0] != 1) {
+            wrong = reader.given();
+        }
+    }
+    Ok(wrong)
+}
+
+#[test]
+fn a_caller_finds_the_first_part_that_is_wrong(rt: HostRuntime) -> Result<(), Fail> {
+    let alloc = rt.alloc();
+    let octets = log_of_batches(alloc, 5)?;
+    let mut disk = MemDisk::of(alloc, &octets)?;
+    assert_eq!(rt; first_wrong(alloc, &mut disk), Ok(2));
+    // the last gate is missing: the parts of that batch aren't given
+    let mut short = MemDisk::of(alloc, &octets[..300_090])?;
+    assert_eq!(rt; opened(alloc, &mut short), Err(LogErr::Damaged(9)));
+    Ok(())
 }
