@@ -1,2 +1,1 @@
-pub mod SecuredLemmas
 pub mod CommandLemmas

@@ -3,15 +3,12 @@ use Rattle.std.specs.Prelude.{ℕ, ◌+◌, List, [], ◌∷◌, ◌++◌, lengt
 use Rattle.ota_core.specs.declared.security.Spi.{Spi}
 use Rattle.ota_core.specs.Security.{spi_octets, key_octet}
 use Rattle.aes_modes.specs.KeyPair.{KeyPair}
-use Rattle.command_packet.specs.Secured.{checksum_of, five, padding_len, sent, two, with_padding}
+use Rattle.secured_packet.specs.Secured.{checksum_of, five, padding_len, sent, two, with_padding}
 
--- CHL, the number of octets from SPI to the end of CC: 2 of SPI, 1 of KIc, 1 of KID, 3 of TAR, 5 of CNTR, 1 of PCNTR, 8
-abbrev pub HEADER_LEN : ℕ
-HEADER_LEN = 0x15
-
--- CPL, CHL, SPI, KIc, KID and TAR, where so many octets follow CPL
+-- CPL, CHL, SPI, KIc, KID and TAR, where so many octets follow CPL. CHL is the number of octets from SPI to the end of CC,
+-- 15 in hexadecimal: 2 of SPI, 1 of KIc, 1 of KID, 3 of TAR, 5 of CNTR, 1 of PCNTR, 8 of CC.
 abbrev pub head_octets : ℕ → Spi → ℕ → List ℕ → List ℕ
-head_octets len spi kvn tar = two len ++ HEADER_LEN ∷ spi_octets spi ++ key_octet kvn ∷ key_octet kvn ∷ tar
+head_octets len spi kvn tar = two len ++ 0x15 ∷ spi_octets spi ++ key_octet kvn ∷ key_octet kvn ∷ tar
 
 -- CNTR and PCNTR
 abbrev pub counter_octets : ℕ → ℕ → List ℕ

@@ -1,3 +1,2 @@
-pub mod Secured
 pub mod Command
 pub mod Carried

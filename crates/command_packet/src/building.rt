@@ -3,11 +3,11 @@
 ghost use Rattle.std.specs.Prelude.{◌≡◌, ◌+◌, ◌^◌, ◌<◌, ◌≤◌, ◌++◌, length, replicate, IfOk};
 ghost use Rattle.command_packet.specs.Carried.{carries};
 ghost use Rattle.command_packet.specs.Command.{checked_octets, command_octets, counter_octets, head_octets};
-ghost use Rattle.command_packet.specs.Secured.{with_padding};
+ghost use Rattle.secured_packet.specs.Secured.{with_padding};
 
-use crate::fields::{PacketBuf, put, put_counter, put_len, put_padding};
+use secured_packet::fields::{PacketBuf, put, put_counter, put_len, put_padding};
 use crate::heads::HEADER_LEN;
-use crate::secured::{cipher, padding_len, put_checksum};
+use secured_packet::protection::{cipher, padding_len, put_checksum};
 use aes_modes::Keys;
 use ota_core::{Counter, Memory, Octets, Spi, Tar, write_key, write_spi};
 use std::alloc::Global;

@@ -5,13 +5,11 @@
 #![tactic(auto)]
 
 mod building;
-pub mod fields;
 mod heads;
 mod opening;
-pub mod secured;
 
 pub use building::{build, build_in};
-pub use fields::PacketBuf;
+pub use secured_packet::PacketBuf;
 pub use heads::kvn_of;
 pub use opening::{Command, OpenErr, open};
 

@@ -5,8 +5,8 @@ use Rattle.std.specs.Str.{bytes_eq}
 use Rattle.std.proofs.lemmas.List.{drop_at, length-replicate, take_at}
 use Rattle.std.proofs.lemmas.Bool.{and_from, eq-eqb, le-leb}
 use Rattle.aes_modes.specs.KeyPair.{KeyPair}
-use Rattle.command_packet.specs.Secured.{checksum_of, deciphered, five, number_of_two, sent, two, with_padding}
-use Rattle.command_packet.proofs.CommandLemmas.{blocks, bytes_eq-same, number_of_five-five, number_of_two-two, padding-few, whole_blocks}
+use Rattle.secured_packet.specs.Secured.{checksum_of, deciphered, five, number_of_two, sent, two, with_padding}
+use Rattle.secured_packet.proofs.FieldLemmas.{blocks, bytes_eq-same, number_of_five-five, number_of_two-two, padding-few, whole_blocks}
 use Rattle.response_packet.specs.declared.answers.Answer.{Answer}
 use Rattle.response_packet.specs.declared.answers.AnswerErr.{AnswerErr}
 use Rattle.response_packet.specs.declared.answers.AnswerErr.TheVariants.{Unsecured}

@@ -8,7 +8,7 @@ use Rattle.response_packet.specs.declared.answers.AnswerErr.{AnswerErr}
 use Rattle.response_packet.specs.declared.answers.AnswerErr.TheVariants.{Form, Unsecured, CcWrong, Padding, Memory}
 use Rattle.response_packet.specs.declared.fronts.Front.{Front}
 use Rattle.response_packet.specs.declared.fronts.Front.TheVariants.{NoForm, Plain, Secured}
-use Rattle.command_packet.specs.Secured.{checksum_of, deciphered, number_of_five, number_of_two}
+use Rattle.secured_packet.specs.Secured.{checksum_of, deciphered, number_of_five, number_of_two}
 use Rattle.response_packet.specs.Response.{PLAIN_LEN, SECURED_LEN, user_data_header}
 
 -- at least 13 octets, of which RPL is the number less its own 2

@@ -1,7 +1,7 @@
 -- The octets of a response packet. ETSI TS 102 225, 5.2; 3GPP TS 31.115, 4.4.
 use Rattle.std.specs.Prelude.{ℕ, ◌+◌, ◌==◌, ◌||◌, Bool, List, [], ◌∷◌, ◌++◌, length}
 use Rattle.aes_modes.specs.KeyPair.{KeyPair}
-use Rattle.command_packet.specs.Secured.{checksum_of, five, padding_len, sent, two, with_padding}
+use Rattle.secured_packet.specs.Secured.{checksum_of, five, padding_len, sent, two, with_padding}
 
 -- RHL, the octets from TAR to the end of CC, with CC and without
 abbrev pub SECURED_LEN : ℕ

@@ -2,15 +2,15 @@
 
 ghost use Rattle.std.specs.Prelude.{◌≡◌, ℕ, ◌+◌, ◌^◌, ◌<◌, ◌≤◌, ◌++◌, Bool, length, replicate, IfOk};
 ghost use Rattle.aes_modes.specs.KeyPair.{KeyPair};
-ghost use Rattle.command_packet.specs.Secured.{with_padding};
+ghost use Rattle.secured_packet.specs.Secured.{with_padding};
 ghost use Rattle.response_packet.specs.declared.answers.AnswerErr.TheVariants.{Unsecured};
 ghost use Rattle.response_packet.specs.Opened.{opens};
 ghost use Rattle.response_packet.specs.Response.{checked_octets, head_octets, plain_octets, response_octets, status_octets};
 
 use aes_modes::Keys;
-use command_packet::PacketBuf;
-use command_packet::fields::{put, put_counter, put_len, put_padding};
-use command_packet::secured::{cipher, padding_len, put_checksum};
+use secured_packet::PacketBuf;
+use secured_packet::fields::{put, put_counter, put_len, put_padding};
+use secured_packet::protection::{cipher, padding_len, put_checksum};
 use ota_core::{Counter, Memory, Octets, Tar};
 use std::alloc::Global;
 

@@ -1,5 +1,5 @@
 use Rattle.std.proofs.Common.{◌≡◌, ℕ, List, [], ◌∷◌, ◌++◌, length, get_or, refl, sym, ap, ◌∙◌, arith, rules}
-use Rattle.command_packet.specs.Secured.{five, two}
+use Rattle.secured_packet.specs.Secured.{five, two}
 use Rattle.response_packet.specs.Response.{PLAIN_LEN, plain_octets}
 use Rattle.response_packet.specs.Opened.{opens}
 use Rattle.response_packet.proofs.AnsweredLemmas.{plain-opens, three_octets}

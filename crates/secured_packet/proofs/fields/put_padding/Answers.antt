@@ -1,6 +1,6 @@
 use Rattle.std.proofs.Common.{◌≡◌, ℕ, ◌++◌, ◌∙◌, ap, replicate, take, arith}
 use Rattle.std.proofs.lemmas.List.{take-replicate}
-use Rattle.command_packet.proofs.fields.put_padding.Goals as goal
+use Rattle.secured_packet.proofs.fields.put_padding.Goals as goal
 
 pub returns-clause-octets : goal.returns-clause-octets
 returns-clause-octets c =

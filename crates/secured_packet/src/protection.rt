@@ -2,7 +2,7 @@
 
 ghost use Rattle.std.specs.Prelude.{◌≡◌, ℕ, ◌+◌, ◌-◌, ◌%◌, ◌≤◌, ◌++◌, IsTrue, length, take, drop};
 ghost use Rattle.aes_modes.specs.Modes.{cbc_of, cbc_plain_of};
-ghost use Rattle.command_packet.specs.Secured.{checksum_of, deciphered, padding_len, sent};
+ghost use Rattle.secured_packet.specs.Secured.{checksum_of, deciphered, padding_len, sent};
 
 use crate::fields::PacketBuf;
 use aes_modes::{cbc_decrypt, cbc_encrypt, cmac8};

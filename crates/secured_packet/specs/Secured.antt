@@ -1,6 +1,7 @@
 -- What commands and responses have in common. ETSI TS 102 225, 5.1 and 5.2. Ciphering is AES in CBC mode, the
 -- cryptographic checksum the first 8 octets of a CMAC with AES.
-use Rattle.std.specs.Prelude.{ℕ, ◌+◌, ◌-◌, ◌%◌, Bool, if◌then◌else◌, List, [], ◌∷◌, ◌++◌, take, replicate}
+use Rattle.std.specs.Prelude.{ℕ, ◌+◌, ◌-◌, ◌%◌, Bool, if◌then◌else◌, List, [], ◌∷◌, ◌++◌, take, drop, replicate}
+use Rattle.std.specs.Str.{bytes_eq}
 use Rattle.std.specs.Int.{bytes_high_first, from_be_bytes, w16, w64}
 use Rattle.aes_modes.specs.Modes.{cbc_of, cbc_plain_of, cmac_of}
 
@@ -39,3 +40,8 @@ deciphered ciphered kic octets = if ciphered then cbc_plain_of kic octets else o
 -- the cryptographic checksum
 abbrev pub checksum_of : List ℕ → List ℕ → List ℕ
 checksum_of kid octets = take 8 (cmac_of kid octets)
+
+-- the 8 octets behind the first `front` are the cryptographic checksum of what stands before, and of all others
+abbrev pub has_checksum : List ℕ → List ℕ → ℕ → List ℕ → Bool
+has_checksum kid before front octets =
+    bytes_eq (take 8 (drop front octets)) (checksum_of kid ((before ++ take front octets) ++ drop (front + 8) octets))

@@ -1,7 +1,7 @@
 use Rattle.std.proofs.Common.{◌≡◌, ℕ, ◌<◌, ◌^◌, List, arith, rules}
 use Rattle.aes_modes.specs.Modes.{AreOctets}
 use Rattle.aes_modes.proofs.Chains.{cbc_plain_of-cbc_of}
-use Rattle.command_packet.proofs.secured.encrypt.Goals as goal
+use Rattle.secured_packet.proofs.protection.encrypt.Goals as goal
 
 pub returns-clause-undone : goal.returns-clause-undone
 returns-clause-undone c =

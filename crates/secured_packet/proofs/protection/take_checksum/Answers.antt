@@ -1,6 +1,6 @@
 use Rattle.std.proofs.Common.{◌∙◌}
-use Rattle.command_packet.proofs.SecuredLemmas.{turned-front, turned-behind}
-use Rattle.command_packet.proofs.secured.take_checksum.Goals as goal
+use Rattle.secured_packet.proofs.SecuredLemmas.{turned-front, turned-behind}
+use Rattle.secured_packet.proofs.protection.take_checksum.Goals as goal
 
 pub returns-clause-checksum : goal.returns-clause-checksum
 returns-clause-checksum c =

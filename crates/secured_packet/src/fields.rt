@@ -1,7 +1,7 @@
 //! Fields of packets: how they are put behind others, and how they are read.
 
 ghost use Rattle.std.specs.Prelude.{◌≡◌, ◌+◌, ◌^◌, ◌<◌, ◌≤◌, ◌++◌, length, replicate};
-ghost use Rattle.command_packet.specs.Secured.{five, number_of_five, number_of_two, two};
+ghost use Rattle.secured_packet.specs.Secured.{five, number_of_five, number_of_two, two};
 
 use arrayvec::ArrayVec;
 use ota_core::Counter;

@@ -1,7 +1,7 @@
 use Rattle.std.proofs.Common.{◌≡◌, ℕ, List, ap, arith}
 use Rattle.std.specs.Prelude.{slice_index}
-use Rattle.command_packet.specs.Secured.{two}
-use Rattle.response_packet.proofs.laws.checksums_apart.Goals as goal
+use Rattle.secured_packet.specs.Secured.{two}
+use Rattle.packet_laws.proofs.laws.checksums_apart.Goals as goal
 
 pub returns-clause-built : goal.returns-clause-built
 unfolding two
