@@ -1,6 +1,7 @@
 //! Opening a command packet.
 
-ghost use Rattle.std.specs.Prelude.{◌≡◌, ◌-◌, ◌%◌, ◌≤◌, length, true, IsTrue};
+ghost use Rattle.std.specs.Prelude.{◌≡◌, ◌-◌, ◌%◌, ◌≤◌, drop, length, true, IsTrue};
+ghost use Rattle.secured_packet.specs.Secured.{deciphered};
 ghost use Rattle.command_packet.specs.declared.opening.OpenErr.TheVariants.{Memory};
 ghost use Rattle.command_packet.specs.Carried.{Answers, carried_plain, carries, checked_of, command_in, has_padding, is_authentic, plain_of};
 
@@ -122,7 +123,8 @@ fn open_secured(
 fn is_authentic(keys: &Keys, ciphered: bool, packet: &[u8]) -> bool
     requires long { 24 ≤ length packet.now }
     requires blocks { IsTrue ciphered → (length packet.now - 10) % 16 ≡ 0 }
-    ensures { result ≡ is_authentic keys.now.kid (plain_of ciphered keys.now.kic packet.now) }
+    ensures authentic { result ≡ is_authentic keys.now.kid (plain_of ciphered keys.now.kic packet.now) }
+    ensures len { length (deciphered ciphered keys.now.kic (drop 10 packet.now)) ≡ length packet.now - 10 }
 {
     checks::is_authentic(keys, ciphered, &[], &packet[..10], &packet[10..], 6)
 }
@@ -131,6 +133,7 @@ fn is_authentic(keys: &Keys, ciphered: bool, packet: &[u8]) -> bool
 fn has_padding(kic: &KeySchedule, ciphered: bool, packet: &[u8]) -> bool
     requires long { 24 ≤ length packet.now }
     requires blocks { IsTrue ciphered → (length packet.now - 10) % 16 ≡ 0 }
+    requires len { length (deciphered ciphered kic.now (drop 10 packet.now)) ≡ length packet.now - 10 }
     ensures { result ≡ has_padding (checked_of (plain_of ciphered kic.now packet.now)) }
 {
     usize::from(checks::padding_in(ciphered, kic, &packet[10..])) <= packet.len() - 24

@@ -36,6 +36,10 @@ module _ (key m : List ℕ) (whole : length (plain_block key m 0) ≡ 16) where
       ap (λ k. drop 16 (plain_blocks key m k)) (add-one (suc n))
       ∙ drop-append-le 16 (plain_blocks key m (suc n)) (plain_block key m (suc n)) (long n)
 
+  pub one_long : length (plain_blocks key m 1) ≡ 16 * 1
+  unfolding plain_blocks
+  one_long = whole
+
   -- the plain text is the first block and what stands behind it
   pub parted : 16 ≤ length m → cbc_plain_of key m ≡ plain_block key m 0 ++ drop 16 (cbc_plain_of key m)
   unfolding cbc_plain_of
@@ -80,6 +84,12 @@ index-first (x ∷ first) others (suc i) below = index-first first others i (ome
 
 pub padding-first : (first others : List ℕ) → length first ≡ 16 → slice_index (first ++ others) 5 ≡ slice_index first 5
 padding-first first others whole = index-first first others 5 (omega (arith, whole))
+
+pub more_long : (key m : List ℕ) (i : ℕ) → length (plain_blocks key m i) ≡ 16 * i → length (plain_block key m i) ≡ 16 → length (plain_blocks key m (i + 1)) ≡ 16 * (i + 1)
+unfolding plain_blocks
+more_long key m i before whole =
+    ap (λ k. length (plain_blocks key m k)) (add-one i)
+    ∙ omega (arith, length-append (plain_blocks key m i) (plain_block key m i), before, whole)
 
 pub all_blocks : (key m : List ℕ) (i : ℕ) → i ≡ length m / 16 → plain_blocks key m i ≡ cbc_plain_of key m
 unfolding cbc_plain_of

@@ -1,7 +1,7 @@
 //! The checks of a packet before anything of it is copied: its octets are deciphered and put under the checksum block by
 //! block.
 
-ghost use Rattle.std.specs.Prelude.{◌≡◌, ◌+◌, ◌*◌, ◌%◌, ◌≤◌, ◌++◌, ℕ, List, IsTrue, drop, length, slice_index};
+ghost use Rattle.std.specs.Prelude.{◌≡◌, ◌+◌, ◌*◌, ◌/◌, ◌%◌, ◌≤◌, ◌++◌, ℕ, List, IsTrue, drop, length, slice_index};
 ghost use Rattle.aes_modes.specs.Modes.{block_before, cbc_plain_of, plain_block};
 ghost use Rattle.aes_modes.specs.Streams.{state_after};
 ghost use Rattle.secured_packet.specs.Secured.{deciphered, has_checksum};
@@ -25,7 +25,8 @@ pub fn is_authentic(
     requires long { front + 8 ≤ length octets.now }
     requires blocks { IsTrue ciphered → length octets.now % 16 ≡ 0 }
 
-    ensures { result ≡ has_checksum keys.now.kid (prefix.now ++ head.now) front (deciphered ciphered keys.now.kic octets.now) }
+    ensures authentic { result ≡ has_checksum keys.now.kid (prefix.now ++ head.now) front (deciphered ciphered keys.now.kic octets.now) }
+    ensures len { length (deciphered ciphered keys.now.kic octets.now) ≡ length octets.now }
 {
     let mac = begin(keys.kid(), prefix, head);
     if ciphered {
@@ -83,7 +84,8 @@ fn is_authentic_ciphered(keys: &Keys, mac: MacStream, octets: &[u8], front: usiz
     requires front { front ≤ 8 }
     requires some { 16 ≤ length octets.now }
     requires blocks { length octets.now % 16 ≡ 0 }
-    ensures { (before : List ℕ) → mac ≡ state_after keys.now.kid before → result ≡ has_checksum keys.now.kid before front (cbc_plain_of keys.now.kic octets.now) }
+    ensures authentic { (before : List ℕ) → mac ≡ state_after keys.now.kid before → result ≡ has_checksum keys.now.kid before front (cbc_plain_of keys.now.kic octets.now) }
+    ensures len { length (cbc_plain_of keys.now.kic octets.now) ≡ length octets.now }
 {
     let mut mac = mac;
     let first = plain_block(keys.kic(), octets, 0);
@@ -99,7 +101,8 @@ fn is_authentic_ciphered(keys: &Keys, mac: MacStream, octets: &[u8], front: usiz
 fn take_later_blocks(mac: &mut MacStream, keys: &Keys, octets: &[u8])
     requires first { length (plain_block keys.now.kic octets.now 0) ≡ 16 }
     requires some { 16 ≤ length octets.now }
-    ensures { (text : List ℕ) → mac.old ≡ state_after keys.now.kid text → mac.new ≡ state_after keys.now.kid (text ++ drop 16 (cbc_plain_of keys.now.kic octets.now)) }
+    ensures taken { (text : List ℕ) → mac.old ≡ state_after keys.now.kid text → mac.new ≡ state_after keys.now.kid (text ++ drop 16 (cbc_plain_of keys.now.kic octets.now)) }
+    ensures len { length (cbc_plain_of keys.now.kic octets.now) ≡ 16 * (length octets.now / 16) }
 {
     for i in 1..octets.len() / 16 {
         mac.take(keys.kid(), &plain_block(keys.kic(), octets, i));

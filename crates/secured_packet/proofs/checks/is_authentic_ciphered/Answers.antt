@@ -7,8 +7,8 @@ use Rattle.secured_packet.specs.Secured.{checksum_of, has_checksum}
 use Rattle.secured_packet.proofs.CheckLemmas.{checksum-first, parted}
 use Rattle.secured_packet.proofs.checks.is_authentic_ciphered.Goals as goal
 
-pub returns : goal.returns
-returns c = λ before is.
+pub returns-clause-authentic : goal.returns-clause-authentic
+returns-clause-authentic c = λ before is.
     let kid : List ℕ = c.args.keys.now.kid in
     let kic : List ℕ = c.args.keys.now.kic in
     let octets : List ℕ = c.args.octets.now in
@@ -25,10 +25,13 @@ returns c = λ before is.
     ap (λ n. take (n - (front + 8)) (drop (front + 8) first)) (sym whole) ∙ take_rest first (front + 8) in
     let Q = λ (k : List ℕ). (text : List ℕ) → c.take.new.self ≡ state_after k text → c.take-2.new.self ≡ state_after k (text ++ take (16 - (front + 8)) (drop (front + 8) first)) in
     let two' = subst Q c.kid-2.ensures c.take-2.ensures (before ++ take front first) one ∙ ap (λ s. state_after kid ((before ++ take front first) ++ s)) rest in
-    let three = c.take_later_blocks.ensures ((before ++ take front first) ++ drop (front + 8) first) two' in
+    let three = c.take_later_blocks.ensures.taken ((before ++ take front first) ++ drop (front + 8) first) two' in
     let R = λ (k : List ℕ). (text : List ℕ) → c.take_later_blocks.new.mac ≡ state_after k text → c.code8.result ≡ checksum_of k text in
     let code = subst R c.kid-3.ensures c.code8.ensures (((before ++ take front first) ++ drop (front + 8) first) ++ others) three in
     let eight : front + 8 - front ≡ 8 = omega arith in
     let given : c.copy_from_slice.new.self ≡ take 8 (drop front first) = c.copy_from_slice.ensures.after ∙ ap (λ n. take n (drop front first)) eight in
     c.eq.ensures ∙ (λ i. bytes_eq (given i) (code i)) ∙ checksum-first first others front whole c.requires.front kid before
     ∙ ap (has_checksum kid before front) (sym plain)
+
+pub returns-clause-len : goal.returns-clause-len
+returns-clause-len c = omega (arith, c.take_later_blocks.ensures.len, c.requires.blocks)
