@@ -10,7 +10,7 @@ mod fronts;
 mod opening;
 
 pub use answers::{Answer, AnswerErr, AnswerIn};
-pub use building::{build, build_plain};
+pub use building::{build, build_in, build_plain};
 pub use opening::{is_settling, open, open_in};
 
 #[cfg(test)]
