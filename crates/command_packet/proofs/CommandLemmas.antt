@@ -16,7 +16,7 @@ use Rattle.command_packet.specs.declared.opening.Command.{Command}
 use Rattle.command_packet.specs.declared.opening.OpenErr.{OpenErr}
 use Rattle.command_packet.specs.declared.opening.OpenErr.TheVariants.{Form}
 use Rattle.secured_packet.specs.Secured.{checksum_of, deciphered, five, number_of_five, number_of_two, padding_len, sent, two, with_padding}
-use Rattle.command_packet.specs.Command.{checked_octets, command_octets, counter_octets, head_octets, packet_octets, padding_of}
+use Rattle.command_packet.specs.Command.{checked_octets, command_octets, counter_octets, head_octets, packet_length, packet_octets, padding_of}
 use Rattle.command_packet.specs.Carried.{carried_by, carried_checked, carried_plain, carries, checked_of, has_form, is_authentic, plain_of, says_ciphered, security_by, security_in}
 
 -- what holds of any three octets holds of a TAR
@@ -179,3 +179,8 @@ is_built keys kvn spi (a ∷ b ∷ c ∷ []) counter padding body kic kid first 
       octets = packet ∙ ap (λ p. packet_octets keys kvn spi tar counter p (with_padding p body)) pad;
       carried = ap (carries keys kvn) packet ∙ carries-built keys kvn spi a b c counter padding body rest above below small fits pad eight plain len;
     }
+
+-- how many octets a packet has
+pub length-built : (ciphered : Bool) (len padding all : ℕ) → padding ≡ padding_len ciphered (14 + len) → all ≡ 24 + len + padding → all ≡ packet_length ciphered len
+length-built true len padding all pad is = omega (arith, pad, is)
+length-built false len padding all pad is = omega (arith, pad, is)

@@ -1,5 +1,5 @@
 -- The octets of a command packet. ETSI TS 102 225, 5.1.
-use Rattle.std.specs.Prelude.{ℕ, ◌+◌, List, [], ◌∷◌, ◌++◌, length}
+use Rattle.std.specs.Prelude.{ℕ, ◌+◌, ◌*◌, ◌/◌, Bool, if◌then◌else◌, List, [], ◌∷◌, ◌++◌, length}
 use Rattle.ota_core.specs.declared.security.Spi.{Spi}
 use Rattle.ota_core.specs.Security.{spi_octets, key_octet}
 use Rattle.aes_modes.specs.KeyPair.{KeyPair}
@@ -27,6 +27,11 @@ packet_octets keys kvn spi tar counter padding text =
 -- how many octets of padding a command has: CNTR, PCNTR, CC and the body are ciphered
 abbrev pub padding_of : Spi → List ℕ → ℕ
 padding_of spi body = padding_len spi.ciphered (14 + length body)
+
+-- how many octets the packet of a body of so many has: 24 more; ciphered, the 10 to the end of TAR and the least multiple of
+-- 16 that is at least 14 more than the body
+abbrev pub packet_length : Bool → ℕ → ℕ
+packet_length ciphered len = if ciphered then 10 + (14 + len + 15) / 16 * 16 else 24 + len
 
 -- the command packet with this body
 unfoldable pub command_octets : KeyPair → ℕ → Spi → List ℕ → ℕ → List ℕ → List ℕ
