@@ -5,11 +5,11 @@ ghost use Rattle.command_packet.specs.Carried.{carries};
 ghost use Rattle.command_packet.specs.Command.{checked_octets, command_octets, counter_octets, head_octets, packet_length};
 ghost use Rattle.secured_packet.specs.Secured.{with_padding};
 
-use secured_packet::fields::{PacketBuf, put, put_counter, put_len, put_padding};
 use crate::heads::HEADER_LEN;
-use secured_packet::protection::{cipher, padding_len, put_checksum};
 use aes_modes::Keys;
 use ota_core::{Counter, Memory, Octets, Spi, Tar, write_key, write_spi};
+use secured_packet::fields::{PacketBuf, put, put_counter, put_len, put_padding};
+use secured_packet::protection::{cipher, padding_len, put_checksum};
 use std::alloc::Global;
 
 /// Puts CPL, CHL, SPI, KIc, KID and TAR, where so many octets follow CPL.

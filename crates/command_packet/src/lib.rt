@@ -10,10 +10,10 @@ mod laws;
 mod opening;
 
 pub use building::{build, build_in};
-pub use secured_packet::PacketBuf;
 pub use heads::kvn_of;
 pub use laws::packets_name_their_keyset;
 pub use opening::{Command, OpenErr, open};
+pub use secured_packet::PacketBuf;
 
 #[cfg(test)]
 mod tests;

@@ -211,6 +211,12 @@ fn first_refusal_that_applies(rt: HostRuntime) -> Result<(), Fail> {
     refuses(&rt, alloc, &CIPHERED[..57], 1, OpenErr::Form)?;
     // Another keyset than the packet's.
     refuses(&rt, alloc, &CIPHERED, 2, OpenErr::UnknownAlgorithm)?;
+    // One bit of the ciphered octets of CC changed.
+    let mut forged = CIPHERED;
+    if let Some(octet) = forged.get_mut(20) {
+        *octet ^= 0x10;
+    }
+    refuses(&rt, alloc, &forged, 1, OpenErr::CcWrong)?;
     // CC is right, and there are fewer octets than PCNTR says.
     refuses(&rt, alloc, &PADDED_ABOVE, 1, OpenErr::Padding)?;
     Ok(())

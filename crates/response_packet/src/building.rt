@@ -8,10 +8,10 @@ ghost use Rattle.response_packet.specs.Opened.{opens};
 ghost use Rattle.response_packet.specs.Response.{checked_octets, head_octets, plain_octets, response_octets, status_octets};
 
 use aes_modes::Keys;
+use ota_core::{Counter, Memory, Octets, Tar};
 use secured_packet::PacketBuf;
 use secured_packet::fields::{put, put_counter, put_len, put_padding};
 use secured_packet::protection::{cipher, padding_len, put_checksum};
-use ota_core::{Counter, Memory, Octets, Tar};
 use std::alloc::Global;
 
 /// RHL with CC: the octets from TAR to its end.

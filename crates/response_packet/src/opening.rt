@@ -9,11 +9,11 @@ use crate::answers::{Answer, AnswerErr, AnswerIn};
 use crate::building::USER_DATA_HEADER;
 use crate::fronts::{Front, front_of};
 use aes_modes::{Keys, cmac8};
+use gf_aes::KeySchedule;
+use ota_core::{Memory, Octets, Tar};
 use secured_packet::checks;
 use secured_packet::fields::counter_of;
 use secured_packet::protection::{decipher, take_checksum};
-use gf_aes::KeySchedule;
-use ota_core::{Memory, Octets, Tar};
 use std::alloc::Global;
 
 /// Whether a status code says that the card used its counter up: 00, 07 and 09 (ETSI TS 102 225, 5.2.2).

@@ -42,4 +42,3 @@ padding-few false len = omega arith
 pub blocks : (ciphered says : Bool) (left : ℕ) → says ≡ ciphered → (ciphered ≡ true → left ≡ 0) → (not says || eqb left 0) ≡ true
 blocks true says left is whole = or_right (not says) (eqb left 0) (eq-eqb left 0 (whole refl))
 blocks false says left is whole = or_left (not says) (eqb left 0) (not_from_false says is)
-
