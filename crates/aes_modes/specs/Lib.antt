@@ -1,2 +1,3 @@
 pub mod KeyPair
 pub mod Modes
+pub mod Streams

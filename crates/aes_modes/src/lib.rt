@@ -5,7 +5,9 @@
 mod cbc;
 mod key_pair;
 mod mac;
+mod mac_stream;
 
 pub use cbc::{cbc_decrypt, cbc_encrypt};
 pub use key_pair::Keys;
 pub use mac::{cmac, cmac8};
+pub use mac_stream::MacStream;

@@ -40,7 +40,7 @@ fn padded(rest: &[u8]) -> [u8; 16]
 }
 
 /// The last block of a text, from its octets, after the subkey is added (SP 800-38B, 6.2).
-fn last_block(key: &KeySchedule, rest: &[u8]) -> CipherBlock
+pub fn last_block(key: &KeySchedule, rest: &[u8]) -> CipherBlock
     requires { length rest.now ≤ 16 }
     ensures { result ≡ last_block key.now rest.now }
 {

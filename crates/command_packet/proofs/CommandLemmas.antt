@@ -11,11 +11,12 @@ use Rattle.ota_core.specs.declared.keysets.Mode.TheVariants.{Higher, Next}
 use Rattle.ota_core.specs.declared.security.Spi.{Spi}
 use Rattle.ota_core.specs.Security.{command_security, key_octet, read_key_octet, read_spi_octets, spi_octets}
 use Rattle.aes_modes.specs.KeyPair.{KeyPair}
+use Rattle.secured_packet.proofs.FieldLemmas.{blocks, bytes_eq-same, number_of_five-five, number_of_two-two, padding-few, whole_blocks}
 use Rattle.command_packet.specs.declared.opening.Command.{Command}
 use Rattle.command_packet.specs.declared.opening.OpenErr.{OpenErr}
 use Rattle.command_packet.specs.declared.opening.OpenErr.TheVariants.{Form}
-use Rattle.command_packet.specs.Secured.{checksum_of, deciphered, five, number_of_five, number_of_two, padding_len, sent, two, with_padding}
-use Rattle.command_packet.specs.Command.{checked_octets, command_octets, counter_octets, head_octets, packet_octets, padding_of}
+use Rattle.secured_packet.specs.Secured.{checksum_of, deciphered, five, number_of_five, number_of_two, padding_len, sent, two, with_padding}
+use Rattle.command_packet.specs.Command.{checked_octets, command_octets, counter_octets, head_octets, packet_length, packet_octets, padding_of}
 use Rattle.command_packet.specs.Carried.{carried_by, carried_checked, carried_plain, carries, checked_of, has_form, is_authentic, plain_of, says_ciphered, security_by, security_in}
 
 -- what holds of any three octets holds of a TAR
@@ -25,23 +26,6 @@ with_tar P each (a ∷ []) len = absurd (omega arith)
 with_tar P each (a ∷ b ∷ []) len = absurd (omega arith)
 with_tar P each (a ∷ b ∷ c ∷ []) len = each a b c
 with_tar P each (a ∷ b ∷ c ∷ d ∷ rest) len = absurd (omega arith)
-
--- ---- numbers
-
-pub number_of_two-two : (n : ℕ) → n < 2 ^ 16 → number_of_two (two n) ≡ n
-unfolding number_of_two two
-number_of_two-two n below = from_be_bytes-to_be_bytes_2 n below
-
-high_zeros : (n : ℕ) → n < 2 ^ 40 → to_be_bytes w64 n ≡ replicate 3 0 ++ bytes_high_first 5 n
-high_zeros n below =
-    let a : n / 72057594037927936 % 256 ≡ 0 = omega arith in
-    let b : n / 281474976710656 % 256 ≡ 0 = omega arith in
-    let c : n / 1099511627776 % 256 ≡ 0 = omega arith in
-    λ i. a i ∷ b i ∷ c i ∷ bytes_high_first 5 n
-
-pub number_of_five-five : (n : ℕ) → n < 2 ^ 40 → number_of_five (five n) ≡ n
-unfolding number_of_five five
-number_of_five-five n below = ap (from_be_bytes w64) (sym (high_zeros n below)) ∙ from_be_bytes-to_be_bytes_8 n (omega arith)
 
 -- ---- SPI, KIc and KID
 
@@ -66,26 +50,6 @@ read_key-written kvn above below =
     let kind : (kvn * 16 + 2) % 16 ≡ 2 = omega arith in
     let number : (kvn * 16 + 2) / 16 ≡ kvn = omega arith in
     rw (eq-eqb ((kvn * 16 + 2) % 16) 2 kind, number, le-leb 1 kvn above) refl
-
--- ---- checksums
-
-pub bytes_eq-same : (s : List ℕ) → bytes_eq s s ≡ true
-bytes_eq-same [] = refl
-bytes_eq-same (x ∷ s) = rw (eq-eqb x x refl) (bytes_eq-same s)
-
--- ---- padding
-
-pub whole_blocks : (ciphered : Bool) (len : ℕ) → ciphered ≡ true → (len + padding_len ciphered len) % 16 ≡ 0
-whole_blocks true len is = omega arith
-whole_blocks false len is = cc
-
-pub padding-few : (ciphered : Bool) (len : ℕ) → padding_len ciphered len ≤ 15
-padding-few true len = omega arith
-padding-few false len = omega arith
-
-pub blocks : (ciphered says : Bool) (left : ℕ) → says ≡ ciphered → (ciphered ≡ true → left ≡ 0) → (not says || eqb left 0) ≡ true
-blocks true says left is whole = or_right (not says) (eqb left 0) (eq-eqb left 0 (whole refl))
-blocks false says left is whole = or_left (not says) (eqb left 0) (not_from_false says is)
 
 -- ---- building
 
@@ -215,3 +179,8 @@ is_built keys kvn spi (a ∷ b ∷ c ∷ []) counter padding body kic kid first 
       octets = packet ∙ ap (λ p. packet_octets keys kvn spi tar counter p (with_padding p body)) pad;
       carried = ap (carries keys kvn) packet ∙ carries-built keys kvn spi a b c counter padding body rest above below small fits pad eight plain len;
     }
+
+-- how many octets a packet has
+pub length-built : (ciphered : Bool) (len padding all : ℕ) → padding ≡ padding_len ciphered (14 + len) → all ≡ 24 + len + padding → all ≡ packet_length ciphered len
+length-built true len padding all pad is = omega (arith, pad, is)
+length-built false len padding all pad is = omega (arith, pad, is)

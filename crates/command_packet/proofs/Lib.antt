@@ -1,2 +1,3 @@
-pub mod SecuredLemmas
 pub mod CommandLemmas
+pub mod CarriedLemmas
+pub mod NamedLemmas

@@ -7,18 +7,17 @@ use Rattle.aes_modes.specs.KeyPair.{KeyPair}
 use Rattle.command_packet.specs.declared.opening.Command.{Command}
 use Rattle.command_packet.specs.declared.opening.OpenErr.{OpenErr}
 use Rattle.command_packet.specs.declared.opening.OpenErr.TheVariants.{Form, UnknownAlgorithm, CcWrong, Padding, Memory}
-use Rattle.command_packet.specs.Secured.{checksum_of, deciphered, number_of_two, number_of_five}
-use Rattle.command_packet.specs.Command.{HEADER_LEN}
+use Rattle.secured_packet.specs.Secured.{checksum_of, deciphered, number_of_two, number_of_five}
 
 -- b3 of the first octet of SPI: ciphering
 abbrev pub says_ciphered : ℕ → Bool
 says_ciphered octet = octet / 4 % 2 == 1
 
--- at least 24 octets, of which CPL is the number less its own 2, CHL is right, and what is ciphered is whole blocks
+-- at least 24 octets, of which CPL is the number less its own 2, CHL is 15, and what is ciphered is whole blocks
 abbrev pub has_form : List ℕ → Bool
 has_form packet =
     nat_le 24 (length packet) && (number_of_two (take 2 packet) == length packet - 2)
-    && (slice_index packet 2 == HEADER_LEN)
+    && (slice_index packet 2 == 0x15)
     && (not (says_ciphered (slice_index packet 3)) || ((length packet - 10) % 16 == 0))
 
 -- SPI and the key version number, where KIc and KID name one
@@ -58,10 +57,13 @@ abbrev pub command_in : ℕ → Spi → List ℕ → Command
 command_in kvn spi checked =
     record { kvn = kvn; spi = spi; tar = take 3 (drop 7 checked); counter = number_of_five (take 5 (drop 10 checked)); body = body_in checked }
 
+-- there are as many octets of padding as PCNTR says
+abbrev pub has_padding : List ℕ → Bool
+has_padding checked = nat_le (slice_index checked 15) (length (drop 16 checked))
+
 -- the fields of an authentic packet, where it has as many octets of padding as it says
 abbrev pub carried_checked : ℕ → Spi → List ℕ → Result Command OpenErr
-carried_checked kvn spi checked =
-    if nat_le (slice_index checked 15) (length (drop 16 checked)) then Ok (command_in kvn spi checked) else Err Padding
+carried_checked kvn spi checked = if has_padding checked then Ok (command_in kvn spi checked) else Err Padding
 
 abbrev pub carried_plain : List ℕ → ℕ → Spi → List ℕ → Result Command OpenErr
 carried_plain kid kvn spi plain = if is_authentic kid plain then carried_checked kvn spi (checked_of plain) else Err CcWrong
@@ -75,11 +77,10 @@ carried_by keys kvn packet (Some (spi, named)) =
 unfoldable pub carries : KeyPair → ℕ → List ℕ → Result Command OpenErr
 carries keys kvn packet = if has_form packet then carried_by keys kvn packet (security_in packet) else Err Form
 
--- memory is wanted only where the form is right and the algorithms are known
+-- memory is wanted only where a command is carried
 abbrev pub MayWantMemory : Result Command OpenErr → Type 0
-MayWantMemory (Err Form) = ⊥
-MayWantMemory (Err UnknownAlgorithm) = ⊥
-MayWantMemory _ = Unit {0}
+MayWantMemory (Ok command) = Unit {0}
+MayWantMemory (Err refusal) = ⊥
 
 -- an opening is answered by what is carried, unless memory is wanting
 abbrev pub Answers : Result Command OpenErr → Result Command OpenErr → Type 0

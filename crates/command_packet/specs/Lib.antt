@@ -1,3 +1,3 @@
-pub mod Secured
 pub mod Command
 pub mod Carried
+pub mod Laws

@@ -2,14 +2,14 @@
 
 ghost use Rattle.std.specs.Prelude.{◌≡◌, ◌+◌, ◌^◌, ◌<◌, ◌≤◌, ◌++◌, length, replicate, IfOk};
 ghost use Rattle.command_packet.specs.Carried.{carries};
-ghost use Rattle.command_packet.specs.Command.{checked_octets, command_octets, counter_octets, head_octets};
-ghost use Rattle.command_packet.specs.Secured.{with_padding};
+ghost use Rattle.command_packet.specs.Command.{checked_octets, command_octets, counter_octets, head_octets, packet_length};
+ghost use Rattle.secured_packet.specs.Secured.{with_padding};
 
-use crate::fields::{PacketBuf, put, put_counter, put_len, put_padding};
 use crate::heads::HEADER_LEN;
-use crate::secured::{cipher, padding_len, put_checksum};
 use aes_modes::Keys;
 use ota_core::{Counter, Memory, Octets, Spi, Tar, write_key, write_spi};
+use secured_packet::fields::{PacketBuf, put, put_counter, put_len, put_padding};
+use secured_packet::protection::{cipher, padding_len, put_checksum};
 use std::alloc::Global;
 
 /// Puts CPL, CHL, SPI, KIc, KID and TAR, where so many octets follow CPL.
@@ -88,6 +88,8 @@ pub fn build_in(
     requires fits { length body.now ≤ 4096 }
 
     ensures packet { out.new.items ≡ command_octets keys.now kvn spi tar counter body.now }
+    ensures len { length out.new.items ≡ packet_length spi.ciphered (length body.now) }
+    ensures law { carries keys.now kvn (command_octets keys.now kvn spi tar counter body.now) ≡ Ok (record { kvn = kvn; spi = spi; tar = tar; counter = counter; body = body.now }) }
     ensures carries { carries keys.now kvn out.new.items ≡ Ok (record { kvn = kvn; spi = spi; tar = tar; counter = counter; body = body.now }) }
 {
     let padding = padding_len(spi.ciphered, 14 + body.len());
@@ -111,6 +113,7 @@ pub fn build(
     requires some { 1 ≤ length body.now }
     requires fits { length body.now ≤ 4096 }
 
+    ensures len { IfOk result (λ packet. length packet ≡ packet_length spi.ciphered (length body.now)) }
     ensures packet { IfOk result (λ packet. packet ≡ command_octets keys.now kvn spi tar counter body.now) }
     ensures carries { IfOk result (λ packet. carries keys.now kvn packet ≡ Ok (record { kvn = kvn; spi = spi; tar = tar; counter = counter; body = body.now })) }
 {

@@ -3,8 +3,8 @@
 ghost use Rattle.std.specs.Prelude.{◌≡◌, ◌≤◌, length, slice_index, true, IfSome};
 ghost use Rattle.command_packet.specs.Carried.{has_form, kvn_in, says_ciphered, security_in};
 
-use crate::fields::len_of;
 use ota_core::{Spi, read_kic, read_kid, read_spi};
+use secured_packet::fields::len_of;
 
 /// CHL: the number of octets from SPI to the end of CC, 21.
 pub const HEADER_LEN: u8 = 0x15;

@@ -5,15 +5,15 @@
 #![tactic(auto)]
 
 mod building;
-pub mod fields;
 mod heads;
+mod laws;
 mod opening;
-pub mod secured;
 
 pub use building::{build, build_in};
-pub use fields::PacketBuf;
 pub use heads::kvn_of;
+pub use laws::packets_name_their_keyset;
 pub use opening::{Command, OpenErr, open};
+pub use secured_packet::PacketBuf;
 
 #[cfg(test)]
 mod tests;

@@ -1,15 +1,17 @@
 //! Opening a command packet.
 
-ghost use Rattle.std.specs.Prelude.{◌≡◌, ◌-◌, ◌%◌, ◌≤◌, drop, length, IsTrue};
+ghost use Rattle.std.specs.Prelude.{◌≡◌, ◌-◌, ◌%◌, ◌≤◌, drop, length, true, IsTrue};
+ghost use Rattle.secured_packet.specs.Secured.{deciphered};
 ghost use Rattle.command_packet.specs.declared.opening.OpenErr.TheVariants.{Memory};
-ghost use Rattle.command_packet.specs.Carried.{Answers, carried_checked, carried_plain, carries, checked_of, is_authentic, plain_of};
+ghost use Rattle.command_packet.specs.Carried.{Answers, carried_plain, carries, checked_of, command_in, has_padding, is_authentic, plain_of};
 
-use crate::fields::counter_of;
 use crate::heads::{has_form, security_of};
-use crate::secured::{decipher, take_checksum};
-use aes_modes::{Keys, cmac8};
+use aes_modes::Keys;
 use gf_aes::KeySchedule;
 use ota_core::{Counter, Octets, Spi, Tar};
+use secured_packet::checks;
+use secured_packet::fields::counter_of;
+use secured_packet::protection::{decipher, take_checksum};
 use std::alloc::{AllocError, Global};
 use std::error::Error;
 use std::fmt;
@@ -74,8 +76,8 @@ impl From<ota_core::Memory> for OpenErr {
 }
 
 /// Opens a packet for the keyset with this key version number and these keys. It is Ok exactly where the octets carry
-/// a command; otherwise the first refusal that applies is answered. Memory is wanted only once the form is right and
-/// the algorithms are known.
+/// a command; otherwise the first refusal that applies is answered. Nothing is copied, and no memory is wanted, before the
+/// packet is known to carry a command.
 ///
 /// ETSI TS 102 225, 5.1.
 #[tactic(auto, unfolding(crate::specs::Carried::carries))]
@@ -108,11 +110,51 @@ fn open_secured(
     requires blocks { IsTrue spi.ciphered → (length packet.now - 10) % 16 ≡ 0 }
     ensures { Answers (carried_plain keys.now.kid kvn spi (plain_of spi.ciphered keys.now.kic packet.now)) result }
 {
-    let mut work = Vec::from_slice(alloc, packet)?;
-    decipher_packet(spi.ciphered, keys.kic(), &mut work);
-    if !is_authentic(keys.kid(), &mut work) {
+    if !is_authentic(keys, spi.ciphered, packet) {
         return Err(OpenErr::CcWrong);
     }
+    if !has_padding(keys.kic(), spi.ciphered, packet) {
+        return Err(OpenErr::Padding);
+    }
+    copy(alloc, keys.kic(), kvn, spi, packet)
+}
+
+/// Whether CC is the one that belongs to the packet.
+fn is_authentic(keys: &Keys, ciphered: bool, packet: &[u8]) -> bool
+    requires long { 24 ≤ length packet.now }
+    requires blocks { IsTrue ciphered → (length packet.now - 10) % 16 ≡ 0 }
+    ensures authentic { result ≡ is_authentic keys.now.kid (plain_of ciphered keys.now.kic packet.now) }
+    ensures len { length (deciphered ciphered keys.now.kic (drop 10 packet.now)) ≡ length packet.now - 10 }
+{
+    checks::is_authentic(keys, ciphered, &[], &packet[..10], &packet[10..], 6)
+}
+
+/// Whether there are as many octets of padding as PCNTR says.
+fn has_padding(kic: &KeySchedule, ciphered: bool, packet: &[u8]) -> bool
+    requires long { 24 ≤ length packet.now }
+    requires blocks { IsTrue ciphered → (length packet.now - 10) % 16 ≡ 0 }
+    requires len { length (deciphered ciphered kic.now (drop 10 packet.now)) ≡ length packet.now - 10 }
+    ensures { result ≡ has_padding (checked_of (plain_of ciphered kic.now packet.now)) }
+{
+    usize::from(checks::padding_in(ciphered, kic, &packet[10..])) <= packet.len() - 24
+}
+
+/// What an authentic packet with right padding carries.
+fn copy(
+    alloc: Global,
+    kic: &KeySchedule,
+    kvn: u8,
+    spi: Spi,
+    packet: &[u8],
+) -> Result<Command, OpenErr>
+    requires long { 24 ≤ length packet.now }
+    requires blocks { IsTrue spi.ciphered → (length packet.now - 10) % 16 ≡ 0 }
+    requires padding { has_padding (checked_of (plain_of spi.ciphered kic.now packet.now)) ≡ true }
+    ensures { Answers (Ok (command_in kvn spi (checked_of (plain_of spi.ciphered kic.now packet.now)))) result }
+{
+    let mut work = Vec::from_slice(alloc, packet)?;
+    decipher_packet(spi.ciphered, kic, &mut work);
+    let _ = take_checksum(&mut work, 16);
     command_in(alloc, kvn, spi, &work[8..])
 }
 
@@ -125,21 +167,11 @@ fn decipher_packet(ciphered: bool, kic: &KeySchedule, packet: &mut [u8])
     decipher(ciphered, kic, &mut packet[10..]);
 }
 
-/// Whether CC is the one that belongs to the packet, which isn't ciphered any more. What CC is over is moved together,
-/// and stands behind the first 8 octets then.
-fn is_authentic(kid: &KeySchedule, plain: &mut [u8]) -> bool
-    requires { 24 ≤ length plain.old }
-    ensures authentic { result ≡ is_authentic kid.now plain.old }
-    ensures checked { drop 8 plain.new ≡ checked_of plain.old }
-{
-    let checksum = take_checksum(plain, 16);
-    checksum == cmac8(kid, &plain[8..])
-}
-
-/// The fields of an authentic packet without CC, where it has as many octets of padding as it says.
+/// The fields of a packet without CC that has as many octets of padding as it says.
 fn command_in(alloc: Global, kvn: u8, spi: Spi, checked: &[u8]) -> Result<Command, OpenErr>
-    requires { 16 ≤ length checked.now }
-    ensures { Answers (carried_checked kvn spi checked.now) result }
+    requires long { 16 ≤ length checked.now }
+    requires padding { has_padding checked.now ≡ true }
+    ensures { Answers (Ok (command_in kvn spi checked.now)) result }
 {
     match checked {
         [
@@ -161,11 +193,8 @@ fn command_in(alloc: Global, kvn: u8, spi: Spi, checked: &[u8]) -> Result<Comman
             padding,
             text @ ..,
         ] => {
-            let padding = usize::from(*padding);
-            if padding > text.len() {
-                return Err(OpenErr::Padding);
-            }
-            let body = Octets::from_slice(alloc, &text[..text.len() - padding])?;
+            let len = text.len() - usize::from(*padding);
+            let body = Octets::from_slice(alloc, &text[..len])?;
             Ok(Command {
                 kvn,
                 spi,

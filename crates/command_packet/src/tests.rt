@@ -99,7 +99,7 @@ fn selects(alloc: Global, count: usize, rest: &[u8]) -> Result<Vec<u8>, Fail> {
 #[test]
 fn longer_scripts(rt: HostRuntime) -> Result<(), Fail> {
     // SELECTs, the rest, the octets of the packet, and its last ones.
-    let cases: [(usize, &[u8], usize, [u8; 8]); 3] = [
+    let cases: [(usize, &[u8], usize, [u8; 8]); 5] = [
         (
             14,
             &[],
@@ -117,6 +117,18 @@ fn longer_scripts(rt: HostRuntime) -> Result<(), Fail> {
             &[0x00, 0x00],
             1050,
             [0xB4, 0x23, 0x05, 0x0C, 0xA8, 0x24, 0x27, 0x33],
+        ),
+        (
+            146,
+            &[0x00, 0x00, 0x00],
+            1050,
+            [0x8A, 0xB9, 0x81, 0x6F, 0x50, 0xEC, 0x87, 0x86],
+        ),
+        (
+            585,
+            &[0x00],
+            4122,
+            [0xD4, 0xE0, 0xE5, 0x9B, 0xA4, 0x3E, 0x39, 0xE7],
         ),
     ];
     let keys = keys()?;
@@ -211,6 +223,12 @@ fn first_refusal_that_applies(rt: HostRuntime) -> Result<(), Fail> {
     refuses(&rt, alloc, &CIPHERED[..57], 1, OpenErr::Form)?;
     // Another keyset than the packet's.
     refuses(&rt, alloc, &CIPHERED, 2, OpenErr::UnknownAlgorithm)?;
+    // One bit of the ciphered octets of CC changed.
+    let mut forged = CIPHERED;
+    if let Some(octet) = forged.get_mut(20) {
+        *octet ^= 0x10;
+    }
+    refuses(&rt, alloc, &forged, 1, OpenErr::CcWrong)?;
     // CC is right, and there are fewer octets than PCNTR says.
     refuses(&rt, alloc, &PADDED_ABOVE, 1, OpenErr::Padding)?;
     Ok(())

@@ -5,13 +5,13 @@ use Rattle.std.specs.Str.{bytes_eq}
 use Rattle.std.proofs.lemmas.List.{drop_at, length-replicate, take_at}
 use Rattle.std.proofs.lemmas.Bool.{and_from, eq-eqb, le-leb}
 use Rattle.aes_modes.specs.KeyPair.{KeyPair}
-use Rattle.command_packet.specs.Secured.{checksum_of, deciphered, five, number_of_two, sent, two, with_padding}
-use Rattle.command_packet.proofs.CommandLemmas.{blocks, bytes_eq-same, number_of_five-five, number_of_two-two, padding-few, whole_blocks}
+use Rattle.secured_packet.specs.Secured.{checksum_of, deciphered, five, number_of_two, sent, two, with_padding}
+use Rattle.secured_packet.proofs.FieldLemmas.{blocks, bytes_eq-same, number_of_five-five, number_of_two-two, padding-few, whole_blocks}
 use Rattle.response_packet.specs.declared.answers.Answer.{Answer}
 use Rattle.response_packet.specs.declared.answers.AnswerErr.{AnswerErr}
 use Rattle.response_packet.specs.declared.answers.AnswerErr.TheVariants.{Unsecured}
 use Rattle.response_packet.specs.declared.fronts.Front.TheVariants.{Plain, Secured}
-use Rattle.response_packet.specs.Response.{SECURED_LEN, checked_octets, head_octets, packet_octets, padding_of, plain_octets, response_octets, status_octets, user_data_header}
+use Rattle.response_packet.specs.Response.{checked_octets, head_octets, packet_octets, padding_of, plain_octets, response_octets, status_octets, user_data_header}
 use Rattle.response_packet.specs.Opened.{checked_of, front_in, has_blocks, has_length, is_authentic, opened_by, opened_checked, opened_plain, opens, plain_of}
 
 -- the packet from its three steps: what is checked behind 5 octets, the checksum in its place, and ciphered
@@ -43,7 +43,7 @@ module _ (keys : KeyPair) (ciphered : Bool) (a b c counter padding status : ℕ)
   part = status_octets counter padding status ++ code ++ text
 
   abbrev head : List ℕ
-  head = head_octets (19 + length text) SECURED_LEN tar
+  head = head_octets (19 + length text) 0x12 tar
 
   abbrev wanted : Result Answer AnswerErr
   wanted = Ok (record { tar = tar; counter = counter; status = status; octets = octets })

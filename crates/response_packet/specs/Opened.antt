@@ -8,8 +8,8 @@ use Rattle.response_packet.specs.declared.answers.AnswerErr.{AnswerErr}
 use Rattle.response_packet.specs.declared.answers.AnswerErr.TheVariants.{Form, Unsecured, CcWrong, Padding, Memory}
 use Rattle.response_packet.specs.declared.fronts.Front.{Front}
 use Rattle.response_packet.specs.declared.fronts.Front.TheVariants.{NoForm, Plain, Secured}
-use Rattle.command_packet.specs.Secured.{checksum_of, deciphered, number_of_five, number_of_two}
-use Rattle.response_packet.specs.Response.{PLAIN_LEN, SECURED_LEN, user_data_header}
+use Rattle.secured_packet.specs.Secured.{checksum_of, deciphered, number_of_five, number_of_two}
+use Rattle.response_packet.specs.Response.{user_data_header}
 
 -- at least 13 octets, of which RPL is the number less its own 2
 abbrev pub has_length : List ℕ → Bool
@@ -19,12 +19,12 @@ has_length packet = nat_le 13 (length packet) && (number_of_two (take 2 packet) 
 abbrev pub has_blocks : Bool → List ℕ → Bool
 has_blocks ciphered packet = nat_le 21 (length packet) && (not ciphered || ((length packet - 6) % 16 == 0))
 
--- what a packet is by its front
+-- what a packet is by its front: RHL is 0A without CC, and 12 with it
 abbrev pub front_in : Bool → List ℕ → Front
 front_in ciphered packet =
     if not (has_length packet) then NoForm
-    else (if slice_index packet 2 == PLAIN_LEN then Plain (slice_index packet 12)
-    else (if (slice_index packet 2 == SECURED_LEN) && has_blocks ciphered packet then Secured else NoForm))
+    else (if slice_index packet 2 == 0x0A then Plain (slice_index packet 12)
+    else (if (slice_index packet 2 == 0x12) && has_blocks ciphered packet then Secured else NoForm))
 
 -- the packet as it was before ciphering: TAR ends at 6, CNTR at 11, PCNTR at 12, the status at 13 and CC at 21, where
 -- the text begins
@@ -47,9 +47,13 @@ abbrev pub answer_in : List ℕ → Answer
 answer_in checked =
     record { tar = take 3 (drop 3 checked); counter = number_of_five (take 5 (drop 6 checked)); status = slice_index checked 12; octets = data_in checked }
 
+-- there are as many octets of padding as PCNTR says
+abbrev pub has_padding : List ℕ → Bool
+has_padding checked = nat_le (slice_index checked 11) (length (drop 13 checked))
+
 -- the fields of an authentic packet, where it has as many octets of padding as it says
 abbrev pub opened_checked : List ℕ → Result Answer AnswerErr
-opened_checked checked = if nat_le (slice_index checked 11) (length (drop 13 checked)) then Ok (answer_in checked) else Err Padding
+opened_checked checked = if has_padding checked then Ok (answer_in checked) else Err Padding
 
 abbrev pub opened_plain : List ℕ → List ℕ → Result Answer AnswerErr
 opened_plain kid plain = if is_authentic kid plain then opened_checked (checked_of plain) else Err CcWrong
@@ -63,11 +67,15 @@ opened_by keys ciphered packet Secured = opened_plain keys.kid (plain_of ciphere
 unfoldable pub opens : KeyPair → Bool → List ℕ → Result Answer AnswerErr
 opens keys ciphered packet = opened_by keys ciphered packet (front_in ciphered packet)
 
--- memory is wanted only for a packet that is a secured one by its front
+-- memory is wanted only for a packet that opens
 abbrev pub MayWantMemory : Result Answer AnswerErr → Type 0
-MayWantMemory (Err Form) = ⊥
-MayWantMemory (Err (Unsecured status)) = ⊥
-MayWantMemory _ = Unit {0}
+MayWantMemory (Ok answer) = Unit {0}
+MayWantMemory (Err refusal) = ⊥
+
+-- it is refused so, and not for want of memory
+abbrev pub IsRefused : Result Answer AnswerErr → AnswerErr → Type 0
+IsRefused opened Memory = ⊥
+IsRefused opened refusal = opened ≡ Err refusal
 
 -- an opening is answered by what the packet says, unless memory is wanting
 abbrev pub Answers : Result Answer AnswerErr → Result Answer AnswerErr → Type 0

@@ -1,16 +1,10 @@
 -- The octets of a response packet. ETSI TS 102 225, 5.2; 3GPP TS 31.115, 4.4.
 use Rattle.std.specs.Prelude.{ℕ, ◌+◌, ◌==◌, ◌||◌, Bool, List, [], ◌∷◌, ◌++◌, length}
 use Rattle.aes_modes.specs.KeyPair.{KeyPair}
-use Rattle.command_packet.specs.Secured.{checksum_of, five, padding_len, sent, two, with_padding}
+use Rattle.secured_packet.specs.Secured.{checksum_of, five, padding_len, sent, two, with_padding}
 
--- RHL, the octets from TAR to the end of CC, with CC and without
-abbrev pub SECURED_LEN : ℕ
-SECURED_LEN = 0x12
-
-abbrev pub PLAIN_LEN : ℕ
-PLAIN_LEN = 0x0A
-
--- RPL, RHL and TAR, where so many octets follow RPL
+-- RPL, RHL and TAR, where so many octets follow RPL. RHL is the number of octets from TAR to the end of CC: 12 in
+-- hexadecimal with CC, 0A without.
 abbrev pub head_octets : ℕ → ℕ → List ℕ → List ℕ
 head_octets len header_len tar = two len ++ header_len ∷ tar
 
@@ -26,12 +20,12 @@ user_data_header = 0x02 ∷ 0x71 ∷ 0x00 ∷ []
 -- ciphering (own)
 abbrev pub checked_octets : List ℕ → ℕ → ℕ → ℕ → List ℕ → List ℕ
 checked_octets tar counter padding status text =
-    user_data_header ++ head_octets (19 + length text) SECURED_LEN tar ++ status_octets counter padding status ++ text
+    user_data_header ++ head_octets (19 + length text) 0x12 tar ++ status_octets counter padding status ++ text
 
 -- the packet, where so many octets of padding stand at the end of the text
 abbrev pub packet_octets : KeyPair → Bool → List ℕ → ℕ → ℕ → ℕ → List ℕ → List ℕ
 packet_octets keys ciphered tar counter padding status text =
-    head_octets (19 + length text) SECURED_LEN tar
+    head_octets (19 + length text) 0x12 tar
     ++ sent ciphered keys.kic (status_octets counter padding status ++ checksum_of keys.kid (checked_octets tar counter padding status text) ++ text)
 
 -- how many octets of padding a response has: CNTR, PCNTR, status, CC and the data are ciphered
@@ -45,7 +39,7 @@ response_octets keys ciphered tar counter status octets =
 
 -- the unsecured form: no CC, no data, PCNTR 00
 abbrev pub plain_octets : List ℕ → ℕ → ℕ → List ℕ
-plain_octets tar counter status = head_octets 11 PLAIN_LEN tar ++ status_octets counter 0 status
+plain_octets tar counter status = head_octets 11 0x0A tar ++ status_octets counter 0 status
 
 -- the status codes that say that the card used its counter up (ETSI TS 102 225, 5.2.2): PoR OK, insufficient memory,
 -- TAR unknown

@@ -2,16 +2,16 @@
 
 ghost use Rattle.std.specs.Prelude.{◌≡◌, ℕ, ◌+◌, ◌^◌, ◌<◌, ◌≤◌, ◌++◌, Bool, length, replicate, IfOk};
 ghost use Rattle.aes_modes.specs.KeyPair.{KeyPair};
-ghost use Rattle.command_packet.specs.Secured.{with_padding};
+ghost use Rattle.secured_packet.specs.Secured.{with_padding};
 ghost use Rattle.response_packet.specs.declared.answers.AnswerErr.TheVariants.{Unsecured};
 ghost use Rattle.response_packet.specs.Opened.{opens};
 ghost use Rattle.response_packet.specs.Response.{checked_octets, head_octets, plain_octets, response_octets, status_octets};
 
 use aes_modes::Keys;
-use command_packet::PacketBuf;
-use command_packet::fields::{put, put_counter, put_len, put_padding};
-use command_packet::secured::{cipher, padding_len, put_checksum};
 use ota_core::{Counter, Memory, Octets, Tar};
+use secured_packet::PacketBuf;
+use secured_packet::fields::{put, put_counter, put_len, put_padding};
+use secured_packet::protection::{cipher, padding_len, put_checksum};
 use std::alloc::Global;
 
 /// RHL with CC: the octets from TAR to its end.
@@ -26,7 +26,7 @@ pub const USER_DATA_HEADER: [u8; 3] = [0x02, 0x71, 0x00];
 /// Puts RPL, RHL with CC, and TAR, where so many octets follow RPL.
 fn put_head(out: &mut PacketBuf, len: u16, tar: Tar)
     requires { length out.old.items + 6 ≤ 4128 }
-    ensures octets { out.new.items ≡ out.old.items ++ head_octets len SECURED_LEN tar }
+    ensures octets { out.new.items ≡ out.old.items ++ head_octets len 0x12 tar }
     ensures len { length out.new.items ≡ length out.old.items + 6 }
     ensures tar { length tar ≡ 3 }
 {
@@ -73,8 +73,10 @@ fn put_checked(
     put_padding(out, padding);
 }
 
-/// Leaves exactly the secured packet in `out`.
-fn build_in(
+/// Leaves exactly the secured packet in `out`: the octets that `build` gives, without memory.
+///
+/// ETSI TS 102 225, 5.2.
+pub fn build_in(
     keys: &Keys,
     ciphered: bool,
     tar: Tar,

@@ -5,7 +5,7 @@ ghost use Rattle.response_packet.specs.declared.fronts.Front.TheVariants.{Secure
 ghost use Rattle.response_packet.specs.Opened.{front_in, has_blocks};
 
 use crate::building::{PLAIN_LEN, SECURED_LEN};
-use command_packet::fields::len_of;
+use secured_packet::fields::len_of;
 
 /// What a packet is by its lengths.
 #[derive(Clone, Copy, Debug, PartialEq, Eq)]

@@ -7,12 +7,10 @@
 mod answers;
 mod building;
 mod fronts;
-mod laws;
 mod opening;
 
 pub use answers::{Answer, AnswerErr, AnswerIn};
-pub use building::{build, build_plain};
-pub use laws::checksums_apart;
+pub use building::{build, build_in, build_plain};
 pub use opening::{is_settling, open, open_in};
 
 #[cfg(test)]

@@ -1,17 +1,19 @@
 //! Opening a response packet.
 
-ghost use Rattle.std.specs.Prelude.{◌≡◌, ◌-◌, ◌%◌, ◌^◌, ◌+◌, ◌<◌, ◌≤◌, drop, length, take, true, IfOk};
-ghost use Rattle.response_packet.specs.Opened.{Answers, AnswersBehind, AnswersIn, checked_of, is_authentic, opened_checked, opened_plain, opens, plain_of};
+ghost use Rattle.std.specs.Prelude.{◌≡◌, ◌-◌, ◌%◌, ◌^◌, ◌+◌, ◌<◌, ◌≤◌, drop, length, take, true, None, IfOk, IfSome, IsOk};
+ghost use Rattle.secured_packet.specs.Secured.{deciphered};
+ghost use Rattle.response_packet.specs.Opened.{Answers, AnswersBehind, AnswersIn, IsRefused, checked_of, has_padding, is_authentic, opened_checked, opened_plain, opens, plain_of};
 ghost use Rattle.response_packet.specs.Response.{settles};
 
 use crate::answers::{Answer, AnswerErr, AnswerIn};
 use crate::building::USER_DATA_HEADER;
 use crate::fronts::{Front, front_of};
 use aes_modes::{Keys, cmac8};
-use command_packet::fields::counter_of;
-use command_packet::secured::{decipher, take_checksum};
 use gf_aes::KeySchedule;
 use ota_core::{Memory, Octets, Tar};
+use secured_packet::checks;
+use secured_packet::fields::counter_of;
+use secured_packet::protection::{decipher, take_checksum};
 use std::alloc::Global;
 
 /// Whether a status code says that the card used its counter up: 00, 07 and 09 (ETSI TS 102 225, 5.2.2).
@@ -23,7 +25,7 @@ pub fn is_settling(status: u8) -> bool
 
 /// Opens a response packet under these keys. `ciphered` says whether a secured one is ciphered, as the SPI of its
 /// command asked. It is Ok exactly where the octets are a secured response; otherwise the first refusal that applies is
-/// answered. Memory is wanted only for a packet that is a secured one by its lengths.
+/// answered. Nothing is copied, and no memory is wanted, before the packet is known to be a secured response.
 ///
 /// ETSI TS 102 225, 5.2.
 #[tactic(auto, unfolding(crate::specs::Opened::opens))]
@@ -33,7 +35,10 @@ pub fn open(alloc: Global, keys: &Keys, ciphered: bool, packet: &[u8]) -> Result
     match front_of(ciphered, packet) {
         Front::NoForm => Err(AnswerErr::Form),
         Front::Plain(status) => Err(AnswerErr::Unsecured(status)),
-        Front::Secured => open_copy(alloc, keys, ciphered, packet),
+        Front::Secured => match refusal_of(keys, ciphered, packet) {
+            Some(refusal) => Err(refusal),
+            None => open_copy(alloc, keys, ciphered, packet),
+        },
     }
 }
 
@@ -56,7 +61,51 @@ pub fn open_in(
     }
 }
 
+/// Why a packet with CC isn't a secured response, if it is none. It wants no memory.
+fn refusal_of(keys: &Keys, ciphered: bool, packet: &[u8]) -> Option<AnswerErr>
+    requires long { 21 ≤ length packet.now }
+    requires blocks { ciphered ≡ true → (length packet.now - 6) % 16 ≡ 0 }
+    ensures refusal { IfSome result (IsRefused (opened_plain keys.now.kid (plain_of ciphered keys.now.kic packet.now))) }
+    ensures none { result ≡ None → IsOk (opened_plain keys.now.kid (plain_of ciphered keys.now.kic packet.now)) }
+{
+    if !has_checksum(keys, ciphered, packet) {
+        return Some(AnswerErr::CcWrong);
+    }
+    if !has_padding(keys.kic(), ciphered, packet) {
+        return Some(AnswerErr::Padding);
+    }
+    None
+}
+
+/// Whether CC is the one that belongs to the packet, which is deciphered block by block.
+fn has_checksum(keys: &Keys, ciphered: bool, packet: &[u8]) -> bool
+    requires long { 21 ≤ length packet.now }
+    requires blocks { ciphered ≡ true → (length packet.now - 6) % 16 ≡ 0 }
+    ensures authentic { result ≡ is_authentic keys.now.kid (plain_of ciphered keys.now.kic packet.now) }
+    ensures len { length (deciphered ciphered keys.now.kic (drop 6 packet.now)) ≡ length packet.now - 6 }
+{
+    checks::is_authentic(
+        keys,
+        ciphered,
+        &USER_DATA_HEADER,
+        &packet[..6],
+        &packet[6..],
+        7,
+    )
+}
+
+/// Whether there are as many octets of padding as PCNTR says.
+fn has_padding(kic: &KeySchedule, ciphered: bool, packet: &[u8]) -> bool
+    requires long { 21 ≤ length packet.now }
+    requires blocks { ciphered ≡ true → (length packet.now - 6) % 16 ≡ 0 }
+    requires len { length (deciphered ciphered kic.now (drop 6 packet.now)) ≡ length packet.now - 6 }
+    ensures { result ≡ has_padding (checked_of (plain_of ciphered kic.now packet.now)) }
+{
+    usize::from(checks::padding_in(ciphered, kic, &packet[6..])) <= packet.len() - 21
+}
+
 fn open_copy(alloc: Global, keys: &Keys, ciphered: bool, packet: &[u8]) -> Result<Answer, AnswerErr>
+    requires opens { IsOk (opened_plain keys.now.kid (plain_of ciphered keys.now.kic packet.now)) }
     requires long { 21 ≤ length packet.now }
     requires short { length packet.now < 2 ^ 17 }
     requires blocks { ciphered ≡ true → (length packet.now - 6) % 16 ≡ 0 }

@@ -1,8 +1,9 @@
 // The octets of packets are those of `openssl enc -aes-128-cbc -nopad` from a zero block and `openssl mac CMAC`, over the
 // fields as ETSI TS 102 225, 5.2 lays them out, with the user data header in front for the checksum.
-use crate::{AnswerErr, build, build_plain, is_settling, open, open_in};
+use crate::{AnswerErr, build, build_in, build_plain, is_settling, open, open_in};
 use aes_modes::Keys;
 use ota_core::{Counter, Tar};
+use secured_packet::PacketBuf;
 use std::alloc::Global;
 use std::process::Abort;
 use std::test::Fail;
@@ -60,6 +61,12 @@ const UNSECURED: [u8; 13] = [
     0x00, 0x0B, 0x0A, 0xB0, 0x00, 0x10, 0x00, 0x00, 0x00, 0x00, 0x00, 0x00, 0x06,
 ];
 
+/// 21 octets with RPL 19 in decimal and RHL 12, and a checksum of no key.
+const SHORT: [u8; 21] = [
+    0x00, 0x13, 0x12, 0xB0, 0x00, 0x10, 0x00, 0x00, 0x00, 0x00, 0x01, 0x00, 0x00, 0x00, 0x00, 0x00,
+    0x00, 0x00, 0x00, 0x00, 0x00,
+];
+
 fn keys() -> Result<Keys, Fail> {
     Ok(Keys::new(&KIC, &KID)?)
 }
@@ -67,6 +74,7 @@ fn keys() -> Result<Keys, Fail> {
 #[test]
 fn built_as_openssl_does(rt: HostRuntime) -> Result<(), Fail> {
     let keys = keys()?;
+    let mut out = PacketBuf::new();
     let cases: [(bool, u8, &[u8], &[u8]); 4] = [
         (true, 0x00, &[0x03, 0x69, 0x81], &CIPHERED),
         (true, 0x00, &[0x03, 0x90, 0x00], &DONE),
@@ -79,6 +87,9 @@ fn built_as_openssl_does(rt: HostRuntime) -> Result<(), Fail> {
         }
         let packet = build(rt.alloc(), &keys, ciphered, TAR, Counter(1), status, octets)?;
         assert!(rt; packet.as_slice() == want);
+        // What was in the buffer before doesn't count.
+        build_in(&keys, ciphered, TAR, Counter(1), status, octets, &mut out);
+        assert!(rt; out.as_slice() == want);
     }
     assert!(rt; build_plain(TAR, Counter(0), 0x06) == UNSECURED);
     Ok(())
@@ -168,7 +179,16 @@ fn changed_octets_are_refused(rt: HostRuntime) -> Result<(), Fail> {
 
 #[test]
 fn first_refusal_that_applies(rt: HostRuntime) -> Result<(), Fail> {
-    let cases: [(bool, &[u8], AnswerErr); 8] = [
+    let mut forged = CIPHERED;
+    if let Some(octet) = forged.get_mut(20) {
+        *octet ^= 0x10;
+    }
+    let cases: [(bool, &[u8], AnswerErr); 11] = [
+        // One bit of the ciphered octets of CC changed.
+        (true, &forged, AnswerErr::CcWrong),
+        // RHL is 12: an octet missing, and the fewest octets that have the form.
+        (false, &SHORT[..20], AnswerErr::Form),
+        (false, &SHORT, AnswerErr::CcWrong),
         // Nothing, too little, an octet missing.
         (true, &[], AnswerErr::Form),
         (true, &UNSECURED[..12], AnswerErr::Form),

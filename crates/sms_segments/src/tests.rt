@@ -76,8 +76,8 @@ fn pushes(
 fn packets_are_cut_to_fill_each_message(rt: HostRuntime) -> Result<(), Fail> {
     let one = Reference::Short(1);
     let wide = Reference::Wide(1);
-    // The packets of scripts of 22, 98, 99, 1,024 and 1,025 octets, and each edge of both kinds.
-    let cases: [(Reference, usize, u32, u8, usize); 22] = [
+    // The packets of scripts of 22, 98, 99, 1,024, 1,025 and 4,096 octets, and each edge of both kinds.
+    let cases: [(Reference, usize, u32, u8, usize); 24] = [
         (one, 1, 1, 1, 4),
         (one, 58, 1, 1, 61),
         (one, 122, 1, 1, 125),
@@ -99,6 +99,8 @@ fn packets_are_cut_to_fill_each_message(rt: HostRuntime) -> Result<(), Fail> {
         (wide, 265, 3, 3, 8),
         (wide, 1050, 8, 7, 140),
         (wide, 1050, 8, 8, 128),
+        (wide, 4122, 32, 31, 140),
+        (wide, 4122, 32, 32, 8),
         (wide, 33_913, 255, 255, 140),
     ];
     for (reference, len, pieces, place, message_len) in cases {

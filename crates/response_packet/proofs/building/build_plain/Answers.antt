@@ -1,13 +1,13 @@
 use Rattle.std.proofs.Common.{◌≡◌, ℕ, List, [], ◌∷◌, ◌++◌, length, get_or, refl, sym, ap, ◌∙◌, arith, rules}
-use Rattle.command_packet.specs.Secured.{five, two}
-use Rattle.response_packet.specs.Response.{PLAIN_LEN, plain_octets}
+use Rattle.secured_packet.specs.Secured.{five, two}
+use Rattle.response_packet.specs.Response.{plain_octets}
 use Rattle.response_packet.specs.Opened.{opens}
 use Rattle.response_packet.proofs.AnsweredLemmas.{plain-opens, three_octets}
 use Rattle.response_packet.proofs.building.build_plain.Goals as goal
 
 -- the unsecured form of the octets of its fields
 abbrev framed : List ℕ → List ℕ → ℕ → List ℕ
-framed tar counter status = two 11 ++ PLAIN_LEN ∷ tar ++ (counter ++ 0 ∷ status ∷ [])
+framed tar counter status = two 11 ++ 0x0A ∷ tar ++ (counter ++ 0 ∷ status ∷ [])
 
 three : (c : goal.After-to_be_bytes) → length c.tar.inside.0 ≡ 3
 three c = search rules

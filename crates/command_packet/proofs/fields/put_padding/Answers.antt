@@ -1,8 +1,0 @@
-use Rattle.std.proofs.Common.{◌≡◌, ℕ, ◌++◌, ◌∙◌, ap, replicate, take, arith}
-use Rattle.std.proofs.lemmas.List.{take-replicate}
-use Rattle.command_packet.proofs.fields.put_padding.Goals as goal
-
-pub returns-clause-octets : goal.returns-clause-octets
-returns-clause-octets c =
-    let is : c.from.result ≡ c.args.padding = c.from.ensures in
-    c.put.ensures.octets ∙ ap (λ s. c.args.out.now.items ++ s) (take-replicate c.from.result 16 0 (omega arith) ∙ ap (λ n. replicate n 0) is)

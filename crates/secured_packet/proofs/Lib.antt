@@ -1,0 +1,3 @@
+pub mod SecuredLemmas
+pub mod FieldLemmas
+pub mod CheckLemmas
