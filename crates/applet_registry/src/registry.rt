@@ -1,9 +1,11 @@
 //! The load files and the applications of a card.
 
-ghost use Rattle.std.specs.Prelude.{◌≡◌, ◌+◌, ◌<◌, [], if◌then◌else◌, length, nat_le, option_and_then, option_copied, IsOk, MatchResult, IfOk, IfSome, OnErr, Ok, Err};
+ghost use Rattle.std.specs.Prelude.{◌≡◌, ◌+◌, ◌<◌, ◌≤◌, true, false, ◌++◌, ◌∷◌, [], if◌then◌else◌, length, nat_le, option_and_then, option_copied, IsOk, MatchResult, IfOk, IfSome, OnErr, Ok, Err};
 ghost use Rattle.apdu_codec.specs.Reply.{answer, answered};
 ghost use Rattle.applet_registry.specs.Commands as command;
-ghost use Rattle.applet_registry.specs.State.{is_issued, put_of, has_load_file, has_application, is_loading, is_known, is_in_use, without_application, without_load_file, without_load, under_way, room_of};
+ghost use Rattle.applet_registry.specs.Sound.{IsNew, IsSound};
+ghost use Rattle.ota_core.specs.KeysetList.{has_kvn};
+ghost use Rattle.applet_registry.specs.State.{is_issued, put_of, has_load_file, has_application, is_loading, is_known, is_in_use, total_of, with_state, without_application, without_load_file, without_load, under_way, room_of};
 ghost use Rattle.applet_registry.specs.Status.{fitting};
 
 use crate::aid::Aid;
@@ -38,10 +40,13 @@ pub struct Registry {
 
 impl Model for Registry {
     ghost use Rattle.applet_registry.specs.State.{State};
+    ghost use Rattle.applet_registry.specs.Sound.{IsSound};
 
     ghost Value = { State };
 
     ghost view = { λ r. record { load_files = r.load_files.items; applications = r.applications.items; load = r.load; issued = r.issued.items; put = r.put } };
+
+    ghost invariant = { λ r. IsSound (record { load_files = r.load_files.items; applications = r.applications.items; load = r.load; issued = r.issued.items; put = r.put }) };
 }
 
 impl Registry {
@@ -76,14 +81,16 @@ impl Registry {
 
     /// Whether the card was issued with a keyset of this number.
     pub fn is_issued(&self, kvn: u8) -> bool
-        ensures { result ≡ is_issued self.now kvn }
+        ensures issued { result ≡ is_issued self.now kvn }
+        ensures sound { IsSound self.now }
     {
         self.issued.iter().any(|issued| *issued == kvn)
     }
 
     /// The keyset that was put with this number.
     pub fn put_keyset(&self, kvn: u8) -> Option<&KeysetFacts>
-        ensures { option_copied result ≡ put_of self.now kvn }
+        ensures keyset { option_copied result ≡ put_of self.now kvn }
+        ensures sound { IsSound self.now }
     {
         self.put
             .as_slice()
@@ -132,8 +139,7 @@ impl Registry {
         }
         match self.loaded(octets)? {
             Some(file) => {
-                self.load_files.push(file)?;
-                self.load = None;
+                self.end_load(file)?;
                 Ok(Reply::done(ArrayVec::new()))
             }
             None => Ok(self.drop_load(Refusal::WrongData)),
@@ -163,7 +169,7 @@ impl Registry {
     {
         match self.relocked(p1, p2, octets) {
             Ok(new) => {
-                set_state(&mut self.applications, &new);
+                self.give_state(&new);
                 Ok(Reply::done(ArrayVec::new()))
             }
             Err(refusal) => Ok(Reply::refused(refusal)),
@@ -204,10 +210,30 @@ impl Registry {
         match self.put_keyset(p2) {
             Some(before) => Ok(reply_to_same(are_same(before, &keyset))),
             None => {
-                self.put.push(p2, keyset)?;
+                self.put(p2, keyset)?;
                 Ok(Reply::done(ArrayVec::new()))
             }
         }
+    }
+
+    /// Gives the application with an AID its new state.
+    fn give_state(&mut self, new: &NewState)
+        ensures { self.new ≡ with_state self.old new.now }
+    {
+        set_state(&mut self.applications, new);
+    }
+
+    /// Puts a keyset.
+    fn put(&mut self, kvn: u8, keyset: KeysetFacts) -> Result<(), Memory>
+        requires above { 1 ≤ kvn }
+        requires below { kvn ≤ 15 }
+        requires new { is_issued self.old kvn ≡ false }
+        requires free { has_kvn kvn self.old.put ≡ false }
+        ensures ok { IfOk result (λ _. self.new ≡ record self.old { put = self.old.put ++ (kvn, keyset) ∷ [] }) }
+        ensures err { OnErr result (self.new ≡ self.old) }
+    {
+        self.put.push(kvn, keyset)?;
+        Ok(())
     }
 
     /// Whether there is a load file with this AID.
@@ -288,7 +314,8 @@ impl Registry {
 
     /// The application that INSTALL [for install] is to register.
     fn new_application(&self, state: u8, octets: &[u8]) -> Result<Application, Refusal>
-        ensures { result ≡ command.new_application state self.now octets.now }
+        ensures application { result ≡ command.new_application state self.now octets.now }
+        ensures new { IfOk result (IsNew self.now) }
     {
         let application = match new_application(state, octets) {
             Some(application) => application,
@@ -344,7 +371,7 @@ impl Registry {
     {
         match self.selectable(octets) {
             Ok(new) => {
-                set_state(&mut self.applications, &new);
+                self.give_state(&new);
                 Reply::done(ArrayVec::new())
             }
             Err(refusal) => Reply::refused(refusal),
@@ -389,7 +416,8 @@ impl Registry {
 
     /// Adds a block to the load under way.
     fn take_block(&mut self, block: &[u8]) -> Result<(), Memory>
-        requires { IfSome self.old.load (λ load. load.count < 256) }
+        requires few { IfSome self.old.load (λ load. load.count < 256) }
+        requires room { room_of self.old + length block.now ≤ 65536 }
         ensures ok { IfOk result (λ _. self.new ≡ command.with_block_taken self.old block.now) }
         ensures err { OnErr result (self.new ≡ self.old) }
     {
@@ -399,10 +427,25 @@ impl Registry {
         }
     }
 
+    /// Ends the load under way with its load file.
+    fn end_load(&mut self, file: LoadFile) -> Result<(), Memory>
+        requires loading { is_loading self.old file.aid ≡ true }
+        requires room { total_of self.old.load_files + length file.octets ≤ 65536 }
+        ensures ok { IfOk result (λ _. self.new ≡ command.with_load_file self.old file) }
+        ensures err { OnErr result (self.new ≡ self.old) }
+    {
+        self.load_files.push(file)?;
+        self.load = None;
+        Ok(())
+    }
+
     /// The load file that the load under way ends with, behind its last block; none, where its octets are
     /// no load file data block.
+    #[tactic(auto, using(crate::proofs::SoundLemmas::same_refl))]
     fn loaded(&self, block: &[u8]) -> Result<Option<LoadFile>, Memory>
-        ensures { IfOk result (λ file. file ≡ option_and_then (command.load_file_of block.now) self.now.load) }
+        ensures file { IfOk result (λ file. file ≡ option_and_then (command.load_file_of block.now) self.now.load) }
+        ensures loading { IfOk result (λ file. IfSome file (λ file. is_loading self.now file.aid ≡ true)) }
+        ensures short { IfOk result (λ file. IfSome file (λ file. length file.octets ≤ under_way self.now + length block.now)) }
     {
         let load = match &self.load {
             Some(load) => load,
