@@ -3,7 +3,7 @@ ghost use Rattle.std.specs.Prelude.{◌≤◌};
 use crate::{Book, BookErr, Looked, Settled};
 use ota_core::{
     CardId, Counter, Entry, History, Illegal, JobId, KeyBytes, KeysetFacts, KeysetId, KeysetState,
-    Memory, Mode, Octets, Reservation, Tar,
+    Mode, Octets, Reservation, Tar,
 };
 use std::alloc::Global;
 use std::test::Fail;
@@ -42,7 +42,7 @@ fn opened(keyset: KeysetId, base: Counter) -> Result<Entry, Fail> {
     })
 }
 
-fn reserved(alloc: Global, keyset: KeysetId, counter: Counter, id: u32) -> Result<Entry, Memory> {
+fn reserved(alloc: Global, keyset: KeysetId, counter: Counter, id: u32) -> Result<Entry, Fail> {
     Ok(Entry::Reserve {
         by: 1,
         moment: 5,
@@ -55,7 +55,7 @@ fn reserved(alloc: Global, keyset: KeysetId, counter: Counter, id: u32) -> Resul
     })
 }
 
-fn done(alloc: Global, keyset: KeysetId, counter: Counter) -> Result<Entry, Memory> {
+fn done(alloc: Global, keyset: KeysetId, counter: Counter) -> Result<Entry, Fail> {
     Ok(Entry::Done {
         by: 1,
         moment: 6,
@@ -65,117 +65,127 @@ fn done(alloc: Global, keyset: KeysetId, counter: Counter) -> Result<Entry, Memo
     })
 }
 
-fn refused(keyset: KeysetId, counter: Counter, status: u8) -> Entry {
-    Entry::Refused {
+fn refused(keyset: KeysetId, counter: Counter, status: u8) -> Result<Entry, Fail> {
+    Ok(Entry::Refused {
         by: 1,
         moment: 5,
         keyset,
         counter,
         status,
-    }
+    })
 }
 
-fn closed(keyset: KeysetId, moment: u64) -> Entry {
-    Entry::Close {
+fn closed(keyset: KeysetId, moment: u64) -> Result<Entry, Fail> {
+    Ok(Entry::Close {
         by: 0,
         moment,
         keyset,
-    }
+    })
 }
 
-fn add_if_legal(book: &mut Book, entry: &Entry) -> Result<Result<(), Illegal>, Memory> {
-    let answer = book.may_add(entry);
+/// Whether the book names this rule, or none. Where it names none, the entry is added.
+fn answers(
+    book: &mut Book,
+    entry: Result<Entry, Fail>,
+    expected: Result<(), Illegal>,
+) -> Result<bool, Fail> {
+    let entry = entry?;
+    let answer = book.may_add(&entry);
     if answer.is_ok() {
-        book.add(entry)?;
+        book.add(&entry)?;
     }
-    Ok(answer)
+    Ok(answer == expected)
 }
 
 #[test]
-fn each_rule_is_named(rt: HostRuntime) -> Result<(), Fail> {
+fn rules_of_keysets_are_named(rt: HostRuntime) -> Result<(), Fail> {
     let alloc = rt.alloc();
     let mut book = Book::new(alloc);
-    let first = keyset(1);
-    let last = keyset(2);
-    let cases = vec![in alloc;
-        (
-            reserved(alloc, first, Counter(1), 1)?,
-            Err(Illegal::NotOpened)
-        ),
-        (done(alloc, first, Counter(1))?, Err(Illegal::NotOpened)),
-        (refused(first, Counter(1), 8), Err(Illegal::NotOpened)),
-        (closed(first, 5), Err(Illegal::NotOpened)),
-        (opened(first, Counter(0))?, Ok(())),
-        (opened(first, Counter(0))?, Err(Illegal::OpenedTwice)),
-        (
-            reserved(alloc, first, Counter(2), 1)?,
-            Err(Illegal::NotNext(Counter(1)))
-        ),
-        (reserved(alloc, first, Counter(1), 1)?, Ok(())),
-        (
-            reserved(alloc, first, Counter(3), 2)?,
-            Err(Illegal::NotNext(Counter(2)))
-        ),
-        (
-            reserved(alloc, first, Counter(2), 1)?,
-            Err(Illegal::JobTaken(Counter(1)))
-        ),
-        (done(alloc, first, Counter(2))?, Err(Illegal::NotReserved)),
-        (refused(first, Counter(2), 8), Err(Illegal::NotReserved)),
-        (refused(first, Counter(1), 8), Err(Illegal::BadStatus)),
-        (refused(first, Counter(1), 9), Ok(())),
-        (
-            refused(first, Counter(1), 8),
-            Err(Illegal::AlreadySettled)
-        ),
-        (reserved(alloc, first, Counter(2), 1)?, Ok(())),
-        (closed(first, 4), Err(Illegal::Earlier(5))),
-        (closed(first, 5), Ok(())),
-        (done(alloc, first, Counter(2))?, Err(Illegal::Closed)),
-        (closed(first, 4), Err(Illegal::Closed)),
-        (opened(first, Counter(0))?, Err(Illegal::OpenedTwice)),
-        (opened(last, Counter(0xFF_FFFF_FFFD))?, Ok(())),
-        (reserved(alloc, last, Counter(0xFF_FFFF_FFFE), 2)?, Ok(())),
-        (
-            reserved(alloc, last, Counter(0xFF_FFFF_FFFF), 2)?,
-            Err(Illegal::Exhausted)
-        ),
-        (done(alloc, last, Counter(0xFF_FFFF_FFFE))?, Ok(())),
-        (refused(last, Counter(0xFF_FFFF_FFFE), 7), Err(Illegal::AlreadySettled)),
-        (opened(keyset(3), Counter(9))?, Err(Illegal::Earlier(6))),
-    ]?;
-    for (place, (entry, expected)) in cases.iter().enumerate() {
-        let answer = add_if_legal(&mut book, entry)?;
-        assert_eq!(rt; answer, *expected, "at entry {place}");
-    }
-    assert_eq!(rt; book.last_moment(), 6);
+    let one = keyset(1);
+    let first = Counter(1);
+    let other = reserved(alloc, one, first, 1);
+    assert!(rt; answers(&mut book, other, Err(Illegal::NotOpened))?);
+    let other = done(alloc, one, first);
+    assert!(rt; answers(&mut book, other, Err(Illegal::NotOpened))?);
+    assert!(rt; answers(&mut book, refused(one, first, 8), Err(Illegal::NotOpened))?);
+    assert!(rt; answers(&mut book, closed(one, 5), Err(Illegal::NotOpened))?);
+    assert!(rt; answers(&mut book, opened(one, Counter(0)), Ok(()))?);
+    assert!(rt; answers(&mut book, opened(one, Counter(0)), Err(Illegal::OpenedTwice))?);
+    assert!(rt; answers(&mut book, closed(one, 4), Err(Illegal::Earlier(5)))?);
+    assert!(rt; answers(&mut book, closed(one, 5), Ok(()))?);
+    assert!(rt; answers(&mut book, closed(one, 4), Err(Illegal::Closed))?);
+    let other = reserved(alloc, one, first, 1);
+    assert!(rt; answers(&mut book, other, Err(Illegal::Closed))?);
+    assert!(rt; answers(&mut book, opened(one, Counter(0)), Err(Illegal::OpenedTwice))?);
     Ok(())
 }
 
-/// A keyset that is closed, one whose last counter is reserved, and one with a counter left. The first job is refused
-/// and reserved again, under the last keyset.
+#[test]
+fn rules_of_counters_are_named(rt: HostRuntime) -> Result<(), Fail> {
+    let alloc = rt.alloc();
+    let mut book = Book::new(alloc);
+    let one = keyset(1);
+    let first = Counter(1);
+    let second = Counter(2);
+    assert!(rt; answers(&mut book, opened(one, Counter(0)), Ok(()))?);
+    let entry = reserved(alloc, one, second, 1);
+    assert!(rt; answers(&mut book, entry, Err(Illegal::NotNext(first)))?);
+    assert!(rt; answers(&mut book, reserved(alloc, one, first, 1), Ok(()))?);
+    let entry = reserved(alloc, one, second, 1);
+    assert!(rt; answers(&mut book, entry, Err(Illegal::JobTaken(first)))?);
+    assert!(rt; answers(&mut book, refused(one, second, 8), Err(Illegal::NotReserved))?);
+    assert!(rt; answers(&mut book, refused(one, first, 8), Err(Illegal::BadStatus))?);
+    assert!(rt; answers(&mut book, refused(one, first, 9), Ok(()))?);
+    assert!(rt; answers(&mut book, refused(one, first, 8), Err(Illegal::AlreadySettled))?);
+    assert!(rt; answers(&mut book, reserved(alloc, one, second, 1), Ok(()))?);
+    assert!(rt; answers(&mut book, done(alloc, one, second), Ok(()))?);
+    let entry = reserved(alloc, one, Counter(3), 1);
+    assert!(rt; answers(&mut book, entry, Err(Illegal::JobTaken(second)))?);
+    Ok(())
+}
+
+#[test]
+fn the_last_counter_is_the_last(rt: HostRuntime) -> Result<(), Fail> {
+    let alloc = rt.alloc();
+    let mut book = Book::new(alloc);
+    let one = keyset(1);
+    let last = Counter(0xFF_FFFF_FFFE);
+    assert!(rt; answers(&mut book, opened(one, Counter(0xFF_FFFF_FFFD)), Ok(()))?);
+    assert!(rt; answers(&mut book, reserved(alloc, one, last, 2), Ok(()))?);
+    let entry = reserved(alloc, one, Counter(0xFF_FFFF_FFFF), 2);
+    assert!(rt; answers(&mut book, entry, Err(Illegal::Exhausted))?);
+    assert!(rt; book.next(one) == Err(BookErr::Exhausted));
+    Ok(())
+}
+
+/// Adds an entry.
+fn put(entries: &mut Vec<Entry>, entry: Result<Entry, Fail>) -> Result<(), Fail> {
+    entries.push(entry?)?;
+    Ok(())
+}
+
+/// A keyset that is closed, and one with a counter left. The first job is refused and reserved again, under the other
+/// keyset.
 fn campaign(alloc: Global) -> Result<Vec<Entry>, Fail> {
-    let entries = vec![in alloc;
-        opened(keyset(1), Counter(0))?,
-        opened(keyset(2), Counter(0xFF_FFFF_FFFD))?,
-        opened(keyset(3), Counter(16))?,
-        reserved(alloc, keyset(1), Counter(1), 1)?,
-        reserved(alloc, keyset(1), Counter(2), 2)?,
-        reserved(alloc, keyset(2), Counter(0xFF_FFFF_FFFE), 3)?,
-        refused(keyset(1), Counter(1), 7),
-        refused(keyset(1), Counter(2), 9),
-        reserved(alloc, keyset(3), Counter(17), 1)?,
-        closed(keyset(1), 5),
-        done(alloc, keyset(2), Counter(0xFF_FFFF_FFFE))?,
-    ]?;
+    let mut entries = Vec::new(alloc);
+    put(&mut entries, opened(keyset(1), Counter(0)))?;
+    put(&mut entries, opened(keyset(3), Counter(16)))?;
+    put(&mut entries, reserved(alloc, keyset(1), Counter(1), 1))?;
+    put(&mut entries, reserved(alloc, keyset(1), Counter(2), 2))?;
+    put(&mut entries, refused(keyset(1), Counter(1), 7))?;
+    put(&mut entries, reserved(alloc, keyset(3), Counter(17), 1))?;
+    put(&mut entries, closed(keyset(1), 5))?;
+    put(&mut entries, reserved(alloc, keyset(3), Counter(18), 3))?;
+    put(&mut entries, done(alloc, keyset(3), Counter(18)))?;
     Ok(entries)
 }
 
+/// The book of these entries.
 fn book_of(alloc: Global, entries: Vec<Entry>) -> Result<Book, Fail> {
     let mut history = History::new(alloc);
-    for (place, entry) in entries.into_iter().enumerate() {
-        if let Err(rule) = history.may_add(&entry) {
-            return Err(Fail::new(format!(in alloc; "entry {place}: {rule:?}")?));
+    for entry in entries {
+        if history.may_add(&entry).is_err() {
+            return Err(Fail::from("an entry breaks a rule"));
         }
         history.add(entry)?;
     }
@@ -186,61 +196,38 @@ fn book_of(alloc: Global, entries: Vec<Entry>) -> Result<Book, Fail> {
 fn keysets_are_known(rt: HostRuntime) -> Result<(), Fail> {
     let alloc = rt.alloc();
     let book = book_of(alloc, campaign(alloc)?)?;
-    let cases = [
-        (keyset(1), KeysetState::Closed, Some(Counter(2)), Err(BookErr::Closed)),
-        (
-            keyset(2),
-            KeysetState::Open,
-            Some(Counter(0xFF_FFFF_FFFE)),
-            Err(BookErr::Exhausted),
-        ),
-        (keyset(3), KeysetState::Open, Some(Counter(17)), Ok(Counter(18))),
-        (keyset(4), KeysetState::New, None, Err(BookErr::UnknownKeyset)),
-    ];
-    for (keyset, state, last, next) in cases {
-        assert_eq!(rt; book.keyset_state(keyset), state, "{keyset:?}");
-        assert_eq!(rt; book.last_counter(keyset), last, "{keyset:?}");
-        assert_eq!(rt; book.next(keyset), next, "{keyset:?}");
-    }
-    assert_eq!(rt; book.opened_facts(keyset(3)), Some(facts(Counter(16))?));
-    assert_eq!(rt; book.opened_facts(keyset(4)), None);
-    assert_eq!(rt; book.last_moment(), 6);
+    assert!(rt; book.keyset_state(keyset(1)) == KeysetState::Closed);
+    assert!(rt; book.keyset_state(keyset(3)) == KeysetState::Open);
+    assert!(rt; book.keyset_state(keyset(2)) == KeysetState::New);
+    assert!(rt; book.next(keyset(1)) == Err(BookErr::Closed));
+    assert!(rt; book.next(keyset(3)) == Ok(Counter(19)));
+    assert!(rt; book.next(keyset(2)) == Err(BookErr::UnknownKeyset));
+    assert!(rt; book.last_counter(keyset(1)) == Some(Counter(2)));
+    assert!(rt; book.last_counter(keyset(2)).is_none());
+    assert!(rt; book.opened_facts(keyset(3)) == Some(facts(Counter(16))?));
+    assert!(rt; book.last_moment() == 6);
     Ok(())
+}
+
+/// A counter of the keyset.
+fn place(keyset: KeysetId, counter: Counter) -> Reservation {
+    Reservation { keyset, counter }
 }
 
 #[test]
 fn jobs_are_looked_up(rt: HostRuntime) -> Result<(), Fail> {
     let alloc = rt.alloc();
     let book = book_of(alloc, campaign(alloc)?)?;
-    let last = Counter(0xFF_FFFF_FFFE);
-    let cases = [
-        (1, Looked::Unsettled(keyset(3), Counter(17))),
-        (2, Looked::Refused(keyset(1), Counter(2))),
-        (3, Looked::Done(keyset(2), last)),
-        (4, Looked::New),
-    ];
-    for (id, looked) in cases {
-        assert_eq!(rt; book.look(job(id)), looked, "job {id}");
-    }
-    let counters = [
-        (keyset(1), Counter(1), true, Some(Settled::Refused(7))),
-        (keyset(1), Counter(2), true, Some(Settled::Refused(9))),
-        (keyset(2), last, true, Some(Settled::Done)),
-        (keyset(3), Counter(17), true, None),
-        (keyset(3), Counter(1), false, None),
-        (keyset(1), Counter(0), false, None),
-    ];
-    for (keyset, counter, is_reserved, settled) in counters {
-        let place = Reservation { keyset, counter };
-        assert_eq!(rt; book.has_reserve(place), is_reserved, "{place:?}");
-        assert_eq!(rt; book.settlement(place), settled, "{place:?}");
-    }
-    let reservation = Reservation {
-        keyset: keyset(3),
-        counter: Counter(17),
-    };
-    assert_eq!(rt; book.last_reservation(job(1)), Some(reservation));
-    assert_eq!(rt; book.last_reservation(job(4)), None);
+    assert!(rt; book.look(job(1)) == Looked::Unsettled(keyset(3), Counter(17)));
+    assert!(rt; book.look(job(2)) == Looked::Unsettled(keyset(1), Counter(2)));
+    assert!(rt; book.look(job(3)) == Looked::Done(keyset(3), Counter(18)));
+    assert!(rt; book.look(job(4)) == Looked::New);
+    assert!(rt; book.settlement(place(keyset(1), Counter(1))) == Some(Settled::Refused(7)));
+    assert!(rt; book.settlement(place(keyset(3), Counter(18))) == Some(Settled::Done));
+    assert!(rt; book.settlement(place(keyset(3), Counter(17))).is_none());
+    assert!(rt; book.has_reserve(place(keyset(3), Counter(17))));
+    assert!(rt; !book.has_reserve(place(keyset(3), Counter(1))));
+    assert!(rt; book.last_reservation(job(1)) == Some(place(keyset(3), Counter(17))));
     Ok(())
 }
 
@@ -250,18 +237,11 @@ fn room_says_nothing(rt: HostRuntime) -> Result<(), Fail> {
     let mut book = Book::new(alloc);
     let entries = campaign(alloc)?;
     book.make_room(&entries)?;
-    assert_eq!(rt; book.keyset_state(keyset(1)), KeysetState::New);
-    assert_eq!(rt; book.look(job(1)), Looked::New);
-    assert_eq!(rt; book.may_add(&closed(keyset(1), 0)), Err(Illegal::NotOpened));
+    assert!(rt; book.keyset_state(keyset(1)) == KeysetState::New);
+    assert!(rt; book.look(job(1)) == Looked::New);
     book.put(&entries);
-    assert_eq!(rt; book.look(job(1)), Looked::Unsettled(keyset(3), Counter(17)));
+    assert!(rt; book.look(job(3)) == Looked::Done(keyset(3), Counter(18)));
     Ok(())
-}
-
-fn takes_shared<T: Send + Sync>(_value: &T) {}
-
-fn is_shared(book: &Book) {
-    takes_shared(book)
 }
 
 const BATCHES: u32 = 1000;
