@@ -1,5 +1,6 @@
 ghost use Rattle.std.specs.Prelude.{◌≡◌, ◌≢◌, map, IfOk, IfErr, OnOk, OnErr};
 ghost use Rattle.ota_core.specs.History.{IsLegal};
+ghost use Rattle.ota_core.specs.Rules.{MomentsNeverFall};
 ghost use Rattle.world_core.specs.Card.{log_of};
 ghost use Rattle.world_core.specs.WorldState.{issued, written};
 ghost use Rattle.world_core.specs.Condition.{IsAllowed};
@@ -76,6 +77,7 @@ impl World {
         // Whatever the events were:
         ensures legal { IsLegal self.new.history }
         ensures legal_with_batch { IsLegal (written self.new) }
+        ensures moments { MomentsNeverFall (written self.new) }
         ensures sent_reserved { SentIsReserved self.new }
         ensures one_counter { OneCounter self.new }
         ensures at_most_once { AtMostOnce self.new }

@@ -1,6 +1,8 @@
 use Rattle.std.proofs.Common.{subst}
-use Rattle.world_core.specs.WorldState.{WorldState}
+use Rattle.world_core.specs.WorldState.{WorldState, written}
 use Rattle.ota_core.specs.History.{IsLegal}
+use Rattle.ota_core.specs.Rules.{MomentsNeverFall}
+use Rattle.ota_core.proofs.RuleLaws.{moments_never_fall}
 use Rattle.world_core.proofs.SoundLemmas.{legal_history}
 use Rattle.world_core.specs.Headline.{SentIsReserved, LogsAreSound, AnswersAreTrue, AnswersAreOwn, AtMostOnce, GivenWasMade, LinesAreReserved, OneCounter}
 use Rattle.world_core.proofs.HeadlineLemmas.{at_most_once, one_counter}
@@ -41,3 +43,7 @@ returns-clause-continues c =
 pub returns-clause-later : goal.returns-clause-later
 returns-clause-later c =
     later_run c.args.self.now c.run_all-outcome.new.self c.args.events.now c.run_all-outcome.result c.run_all-outcome.ensures.ran c.run_all-outcome.ensures.stopped
+
+pub returns-clause-moments : goal.returns-clause-moments
+returns-clause-moments c = subst (λ (w : WorldState). MomentsNeverFall (written w)) c.self.view_is
+    (moments_never_fall (written c.self.inside.parts) c.self.invariant.legal)
