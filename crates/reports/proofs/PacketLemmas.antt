@@ -17,7 +17,7 @@ use Rattle.ota_core.specs.declared.entries.Entry.TheVariants.{Open, Reserve, Don
 use Rattle.ota_core.specs.declared.security.Spi.{Spi}
 use Rattle.aes_modes.specs.KeyPair.{KeyPair}
 use Rattle.command_packet.specs.Command.{command_octets}
-use Rattle.command_packet.specs.Secured.{two}
+use Rattle.secured_packet.specs.Secured.{two}
 use Rattle.reports.specs.Report.{entries_in}
 use Rattle.reports.specs.Packets.{HasBody}
 

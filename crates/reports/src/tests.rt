@@ -213,3 +213,31 @@ fn a_longer_packet_is_sent_in_two_messages(rt: HostRuntime) -> Result<(), Fail> 
     );
     Ok(())
 }
+
+// 146 selections and three octets: 1,025 octets. The packet leaves under a reference of two octets, in seven messages of 140
+// octets and one of 128.
+#[test]
+fn a_long_script_is_sent_under_a_wide_reference(rt: HostRuntime) -> Result<(), Fail> {
+    let alloc = rt.alloc();
+    let first = keyset(1);
+    let mut history = History::new(alloc);
+    add(&mut history, opened(first, Counter(0), Mode::Higher, true)?)?;
+    let mut script = Vec::new(alloc);
+    for _ in 0..146 {
+        script.extend_from_slice(&[0x00, 0xA4, 0x00, 0x00, 0x02, 0x3F, 0x00])?;
+    }
+    script.extend_from_slice(&[0x00, 0x00, 0x00])?;
+    add(
+        &mut history,
+        reserved(alloc, first, Counter(1), 1, &script)?,
+    )?;
+    let jobs = vec![in alloc; job(alloc, first, 1)?]?;
+    let text = text_of(alloc, &jobs, &[history])?;
+    let front =
+        "job,counter,place,octets\n1,0000000001,1,08080400010801700004181516391212b00010ee89e5c468";
+    let back = "8c4ed136a3ceadfa3db933b78ab9816f50ec8786\n";
+    assert_eq!(rt; text.len(), 2369);
+    assert!(rt; text.as_str().starts_with(front));
+    assert!(rt; text.as_str().ends_with(back));
+    Ok(())
+}
