@@ -11,7 +11,11 @@ use Rattle.gate_log.specs.declared.headings.Heading.TheVariants as heading
 use Rattle.gate_log.specs.Log.{OPEN, CLOSED, log_octets}
 use Rattle.gate_log.specs.Reading.{is_half_made, is_unformatted, is_log, heading_of, parts_of, Walk, reading_of_walk, reading_with, walk_from}
 use Rattle.gate_log.specs.Reading.Walk.{Ended, Broken}
-use Rattle.gate_log.specs.Formatting.{IsMade, IsBeforeOrNew, HasMark}
+use Rattle.std.specs.Prelude.{Err}
+use Rattle.disk_model.specs.declared.faults.DiskFault.{DiskFault}
+use Rattle.disk_model.specs.declared.faults.DiskFault.TheVariants.{Failed, Memory}
+use Rattle.gate_log.specs.Append.{CallTicks}
+use Rattle.gate_log.specs.Formatting.{IsMade, IsBeforeOrNew, HasMark, MadeTicks, calls_of_making, ClearTicks}
 use Rattle.gate_log.specs.Reading.Reading.{Unformatted}
 use Rattle.gate_log.specs.Making.{IsNew, IsMarked, torn_mark, torn_last, marked_unformatted, cut_marked, torn_marked, cut_to_mark}
 
@@ -153,3 +157,30 @@ module _ {D B C : Type 0} (told : Meaning D B C) where
       joined told old mid new (IsBeforeOrNew told old head)
       (weaker told old mid (image_now told old) (IsBeforeOrNew told old head) first (λ image now. inl now))
       (weaker told mid new (IsNew head) (IsBeforeOrNew told old head) second (λ image made. inr (unformatted, made)))
+
+-- ---- how many calls were made
+
+pub cleared_err : (marked : Bool) (before now : ℕ) (fault : DiskFault) → ClearTicks marked before now (Err fault) → CallTicks {T = Unit {0}} (calls_of_making marked) before now (Err fault)
+cleared_err true before now fault ticks = absurd (let never = ticks.0 in cc never)
+cleared_err false before now Failed ticks = (ticks.0, omega (arith, ticks.1))
+cleared_err false before now Memory ticks = (ticks.0, omega (arith, ticks.1))
+
+pub made_ticks : (head octets : List ℕ) (before now : ℕ) → IsMade (parts_of head octets) → now ≡ before + 2 → MadeTicks head octets before now
+made_ticks head octets before now is ticks = record {
+  marked = λ un mark. absurd (subst IsMade un is);
+  unmarked = λ un mark. absurd (subst IsMade un is);
+  made = λ made. ticks;
+}
+
+pub new_ticks : (head octets : List ℕ) (marked : Bool) (before mid now : ℕ) → parts_of head octets ≡ Unformatted → HasMark marked octets → mid ≡ before + 2 → now ≡ mid + calls_of_making marked
+    → MadeTicks head octets before now
+new_ticks head octets true before mid now un has first ticks = record {
+  marked = λ is mark. omega (arith, first, ticks);
+  unmarked = λ is mark. absurd (mark has);
+  made = λ made. absurd (subst IsMade un made);
+}
+new_ticks head octets false before mid now un has first ticks = record {
+  marked = λ is mark. absurd (has mark.filled mark.mark);
+  unmarked = λ is mark. omega (arith, first, ticks);
+  made = λ made. absurd (subst IsMade un made);
+}

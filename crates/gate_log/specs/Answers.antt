@@ -9,7 +9,8 @@ use Rattle.gate_log.specs.declared.log_errors.LogErr.TheVariants as log_err
 use Rattle.gate_log.specs.Reading.{Reading}
 use Rattle.gate_log.specs.Reading.Reading.{Unformatted, NotALog, OtherHead, Damaged, Opened}
 
--- A fault of the disk comes only where its count rose. With every other answer the counts stay.
+-- A fault of the disk comes only where its count rose. With every other answer the counts stay, and what is counted
+-- beside the disk stands with each.
 abbrev pub ErrCause : Counts → Counts → LogErr → Type 0
 ErrCause before now (log_err.DiskFault fault.Failed) = HasRisen before.faults now.faults
 ErrCause before now (log_err.DiskFault fault.Memory) = HasRisen before.wants now.wants
@@ -22,6 +23,7 @@ AnswerCause before now (Err error) = ErrCause before now error
 pub record LogCause {T : Type 0} (before now : Counts) (result : Result T LogErr) : Type 0 where
   pub faults : before.faults ≤ now.faults
   pub wants : before.wants ≤ now.wants
+  pub beside : now.beside ≡ before.beside
   pub answer : AnswerCause before now result
 
 -- the disk made its calls, each of them

@@ -29,7 +29,7 @@ module _ {D B C : Type 0} (told : Meaning D B C) where
     pub looks_none : {T : Type 0} (disk : D) (was now : WindowsState) (value : T) → now.read ≡ was.read → now.long ≡ was.long → Looks told counts disk disk was now (Ok value)
     looks_none disk was now value read long = record {
       tells = refl;
-      cause = record { faults = omega arith; wants = omega arith; answer = refl };
+      cause = record { faults = omega arith; wants = omega arith; beside = refl; answer = refl };
       err = tt;
       content = λ tells. refl;
       moments = λ tells. at_once told disk (image_now told disk) (λ image is. is);
@@ -42,7 +42,7 @@ module _ {D B C : Type 0} (told : Meaning D B C) where
     pub looks_want : {T : Type 0} (disk : D) (was now : WindowsState) → was.read ≤ was.long → now.long ≤ was.long → Looks told counts {T = T} disk disk was now (Err log_err.Memory)
     looks_want disk was now within shorter = record {
       tells = refl;
-      cause = record { faults = omega arith; wants = omega arith; answer = refl };
+      cause = record { faults = omega arith; wants = omega arith; beside = refl; answer = refl };
       err = tt;
       content = λ tells. refl;
       moments = λ tells. at_once told disk (image_now told disk) (λ image is. is);
@@ -89,7 +89,7 @@ module _ {D B C : Type 0} (told : Meaning D B C) where
     pub looks_as : {T U : Type 0} (old new : D) (was now : WindowsState) (value : T) (other : U) → Looks told counts old new was now (Ok value) → Looks told counts old new was now (Ok other)
     looks_as old new was now value other looks = record {
       tells = looks.tells;
-      cause = record { faults = looks.cause.faults; wants = looks.cause.wants; answer = looks.cause.answer };
+      cause = record { faults = looks.cause.faults; wants = looks.cause.wants; beside = looks.cause.beside; answer = looks.cause.answer };
       err = tt;
       content = looks.content;
       moments = looks.moments;

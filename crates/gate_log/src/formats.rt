@@ -8,7 +8,8 @@ ghost use Rattle.gate_log.specs.Reading.{heading_of, parts_of};
 ghost use Rattle.gate_log.specs.Reading.Reading.{Unformatted};
 ghost use Rattle.gate_log.specs.Answers.{LogCause, UnlessFault};
 ghost use Rattle.gate_log.specs.Making.{IsNew, IsMarked};
-ghost use Rattle.gate_log.specs.Formatting.{FormatAnswer, IsFormatErr, IsBeforeOrNew, HasMark};
+ghost use Rattle.gate_log.specs.Formatting.{FormatAnswer, IsFormatErr, IsBeforeOrNew, HasMark, FormatTicks, calls_of_making, ClearTicks};
+ghost use Rattle.gate_log.specs.Append.{CallTicks};
 
 use crate::appends::write_through;
 use crate::headings::{Heading, heading_of};
@@ -27,6 +28,7 @@ pub fn format<D: DiskCalls>(disk: &mut D, head: [u8; 9]) -> Result<(), LogErr>
     ensures tells { D.told.tells disk.new ≡ D.told.tells disk.old }
     ensures cause { LogCause (D.counts disk.old) (D.counts disk.new) result }
     ensures err { IfErr result IsFormatErr }
+    ensures clock { Tells D.told disk.old → FormatTicks head (D.told.seen disk.old) (D.told.clock disk.old) (D.told.clock disk.new) result }
 {
     disk.sync()?;
     let mut room = [0; 12];
@@ -58,6 +60,7 @@ fn make<D: DiskCalls>(disk: &mut D, marked: bool, head: [u8; 9]) -> Result<(), D
     ensures content { Tells D.told disk.old → OnOk result (D.told.seen disk.new ≡ log_octets head []) }
     ensures durable { Tells D.told disk.old → OnOk result (Only (D.told.seen disk.new) (image_now D.told disk.new)) }
     ensures moments { Tells D.told disk.old → DiskRun D.told disk.old disk.new (IsNew head) }
+    ensures clock { Tells D.told disk.old → CallTicks (calls_of_making marked) (D.told.clock disk.old) (D.told.clock disk.new) result }
     ensures tells { D.told.tells disk.new ≡ D.told.tells disk.old }
     ensures cause { HasCause (D.counts disk.old) (D.counts disk.new) result }
 {
@@ -74,6 +77,7 @@ fn clear_mark<D: DiskCalls>(disk: &mut D, marked: bool, head: [u8; 9]) -> Result
     ensures content { Tells D.told disk.old → OnOk result (IsMarked (D.told.seen disk.new)) }
     ensures durable { Tells D.told disk.old → OnOk result (Only (D.told.seen disk.new) (image_now D.told disk.new)) }
     ensures moments { Tells D.told disk.old → DiskRun D.told disk.old disk.new (IsNew head) }
+    ensures clock { Tells D.told disk.old → ClearTicks marked (D.told.clock disk.old) (D.told.clock disk.new) result }
     ensures tells { D.told.tells disk.new ≡ D.told.tells disk.old }
     ensures cause { HasCause (D.counts disk.old) (D.counts disk.new) result }
 {
@@ -90,6 +94,7 @@ fn lay_out<D: DiskCalls>(disk: &mut D, head: [u8; 9]) -> Result<(), DiskFault>
     ensures content { Tells D.told disk.old → OnOk result (D.told.seen disk.new ≡ 0 ∷ (head ++ CLOSED ∷ [])) }
     ensures durable { Tells D.told disk.old → OnOk result (Only (D.told.seen disk.new) (image_now D.told disk.new)) }
     ensures moments { Tells D.told disk.old → DiskRun D.told disk.old disk.new IsMarked }
+    ensures clock { Tells D.told disk.old → CallTicks 3 (D.told.clock disk.old) (D.told.clock disk.new) result }
     ensures tells { D.told.tells disk.new ≡ D.told.tells disk.old }
     ensures cause { HasCause (D.counts disk.old) (D.counts disk.new) result }
 {
@@ -114,6 +119,7 @@ fn write_mark<D: DiskCalls>(disk: &mut D, head: [u8; 9]) -> Result<(), DiskFault
     ensures content { Tells D.told disk.old → OnOk result (D.told.seen disk.new ≡ log_octets head []) }
     ensures durable { Tells D.told disk.old → OnOk result (Only (D.told.seen disk.new) (image_now D.told disk.new)) }
     ensures moments { Tells D.told disk.old → DiskRun D.told disk.old disk.new (IsNew head) }
+    ensures clock { Tells D.told disk.old → CallTicks 2 (D.told.clock disk.old) (D.told.clock disk.new) result }
     ensures tells { D.told.tells disk.new ≡ D.told.tells disk.old }
     ensures cause { HasCause (D.counts disk.old) (D.counts disk.new) result }
 {

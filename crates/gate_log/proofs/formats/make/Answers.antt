@@ -1,3 +1,5 @@
+use Rattle.std.proofs.lemmas.Result.{err_from_is_err_and}
+use Rattle.gate_log.proofs.Made.{cleared_err}
 use Rattle.gate_log.proofs.Steps.{still_tells}
 use Rattle.gate_log.proofs.Made.{then_new, marked_run}
 use Rattle.gate_log.proofs.formats.make.Goals as goal
@@ -20,3 +22,8 @@ returns-clause-moments g c =
     (then_new told c.args.disk.now c.clear_mark.new.disk c.lay_out.new.disk c.args.head (c.clear_mark.ensures.moments tells)
     (marked_run told c.clear_mark.new.disk c.lay_out.new.disk c.args.head (c.lay_out.ensures.moments mid_tells)))
     (c.write_mark.ensures.moments last_tells)
+
+pub returns-in_err-clear_mark-clause-clock : goal.returns-in_err-clear_mark-clause-clock
+returns-in_err-clear_mark-clause-clock g c = λ tells.
+    let p = err_from_is_err_and c.from_residual.result c.from_residual.ensures.1 in
+    rw (p.1, p.2) (cleared_err c.args.marked _ _ c.in_err-clear_mark.field-0.0 (c.in_err-clear_mark.ensures.clock tells))
