@@ -6,6 +6,7 @@ pub mod Entry
 pub mod History
 pub mod HistoryLaws
 pub mod Rules
+pub mod Questions
 pub mod HistoryValue
 pub mod Outcome
 pub mod Security

@@ -12,10 +12,10 @@ use crate::counters::Counter;
 use crate::entries::{Entry, Illegal};
 use crate::jobs::JobId;
 use crate::keysets::KeysetId;
-use crate::past::{
-    Place, has_close, has_open, has_refusal, has_reserve, has_settlement, last_counter,
-    last_reservation,
+use crate::questions::{
+    has_close, has_open, has_refusal, has_reserve, has_settlement, last_counter, last_reservation,
 };
+use crate::reservations::Reservation;
 
 /// The last counter that may be reserved.
 const LAST_COUNTER: u64 = 0xFF_FFFF_FFFE;
@@ -81,7 +81,7 @@ fn may_settle(entries: &[Entry], keyset: KeysetId, counter: Counter) -> Result<(
     ensures { let past = reverse entries.now in result_err result ≡ option_or (broken_in_use keyset past) (broken_settlement (record { keyset = keyset; counter = counter }) past) }
 {
     in_use(entries, keyset)?;
-    awaits_settlement(entries, Place { keyset, counter })
+    awaits_settlement(entries, Reservation { keyset, counter })
 }
 
 fn may_refuse(
@@ -137,7 +137,7 @@ fn job_is_free(entries: &[Entry], job: JobId) -> Result<(), Illegal>
     }
 }
 
-fn awaits_settlement(entries: &[Entry], place: Place) -> Result<(), Illegal>
+fn awaits_settlement(entries: &[Entry], place: Reservation) -> Result<(), Illegal>
     ensures { result_err result ≡ broken_settlement place (reverse entries.now) }
 {
     if !has_reserve(entries, place) {

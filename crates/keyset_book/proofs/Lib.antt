@@ -1,0 +1,5 @@
+pub mod PastLemmas
+pub mod RuleLemmas
+pub mod EnteringLemmas
+pub mod AskedLemmas
+pub mod BatchLemmas
