@@ -8,6 +8,8 @@ use Rattle.std.proofs.lemmas.List.Elements.{All-push}
 use Rattle.ota_core.specs.Entry.{keyset_of}
 use Rattle.ota_core.specs.History.{broken, IsLegal, IsLegalPast}
 use Rattle.ota_core.specs.declared.entries.Entry.{Entry}
+use Rattle.ota_core.specs.declared.entries.Illegal.{Illegal}
+use Rattle.keyset_book.specs.Book.{StandsFor}
 use Rattle.counter_journal.specs.declared.versions.Version.{Version}
 use Rattle.counter_journal.specs.declared.versions.Version.TheVariants.{First, Second}
 use Rattle.counter_journal.specs.declared.histories_read.Past.{Past}
@@ -42,6 +44,17 @@ bad_entry lane lanes entries version part found read differs = λ entry is of sp
     both_ways : true ≡ false → ⊥
     both_ways e = cc
 
+none_is : (found : Option Illegal) → is_none found ≡ true → found ≡ None
+none_is None none = refl
+none_is (Some rule) none = absurd cc
+
+-- one that belongs may follow
+pub good_entry : (lane lanes : ℕ) (entries : List Entry) (version : Version) (part : List ℕ) (found : Entry) → IsRead version part (Some found) → belongs lane lanes entries found ≡ true
+    → IsNext lane lanes entries version part (Some found)
+good_entry lane lanes entries version part found read is =
+    let both = both_true (eqb ((keyset_of found).card.0 % lanes) lane) (is_none (broken (reverse entries) found)) is in
+    (read.0, record { fits = read.1; of_lane = eqb-true ((keyset_of found).card.0 % lanes) lane both.0 }, read.2, none_is (broken (reverse entries) found) both.1)
+
 -- a legal history with a legal entry behind it
 pub IsLegal-push : (entries : List Entry) (entry : Entry) → IsLegal entries → broken (reverse entries) entry ≡ None → IsLegal (entries ++ entry ∷ [])
 IsLegal-push entries entry legal follows = subst IsLegalPast (sym (reverse-append entries (entry ∷ []))) (legal, follows)
@@ -69,24 +82,24 @@ second_mark lane lanes entries part is = record {
   no_entry = λ entry fits of spelled. absurd (no_mark Second entry (spelled ∙ is));
 }
 
-same_past : (old new : Past) → new.history ≡ old.history → new.version ≡ old.version → new ≡ old
-same_past old new history version = λ i. record { history = history i; version = version i }
+same_past : (old new : Past) → new.history ≡ old.history → new.book ≡ old.book → new.version ≡ old.version → new ≡ old
+same_past old new history book version = λ i. record { history = history i; book = book i; version = version i }
 
 taken_by : (lane lanes : ℕ) (old new : Past) (part : List ℕ) (version : Version) (taken : Bool) → old.version ≡ version → part ≡ MARK → taken ≡ is_first version
-    → new.history ≡ old.history → new.version ≡ Second → IsTaken lane lanes old part taken new
-taken_by lane lanes old new part First true was is said history second =
+    → new.history ≡ old.history → new.book ≡ old.book → new.version ≡ Second → IsTaken lane lanes old part taken new
+taken_by lane lanes old new part First true was is said history book second =
     inl (subst (λ (v : Version). IsFirstMark v part) (sym was) is, ap (λ h. h.entries) history, second)
-taken_by lane lanes old new part First false was is said history second = absurd (not_both (sym said))
-taken_by lane lanes old new part Second true was is said history second = absurd (not_both said)
-taken_by lane lanes old new part Second false was is said history second =
+taken_by lane lanes old new part First false was is said history book second = absurd (not_both (sym said))
+taken_by lane lanes old new part Second true was is said history book second = absurd (not_both said)
+taken_by lane lanes old new part Second false was is said history book second =
     (
       subst (λ (v : Version). IsBad lane lanes old.history.entries v part) (sym was) (second_mark lane lanes old.history.entries part is),
-      same_past old new history (second ∙ sym was),
+      same_past old new history book (second ∙ sym was),
     )
 
 -- the mark is taken where none stands before it
 pub mark_taken : (lane lanes : ℕ) (old new : Past) (part : List ℕ) (taken : Bool) → is_mark part ≡ true → IsMarkTaken old taken new → IsTaken lane lanes old part taken new
-mark_taken lane lanes old new part taken is marked = taken_by lane lanes old new part old.version taken refl (mark_is part is) marked.0 marked.1 marked.2
+mark_taken lane lanes old new part taken is marked = taken_by lane lanes old new part old.version taken refl (mark_is part is) marked.0 marked.1 marked.2 marked.3
 
 -- a part that is no entry that may follow, and not the mark, is bad
 pub part_bad : (lane lanes : ℕ) (entries : List Entry) (version : Version) (part : List ℕ) → is_mark part ≡ false → IsNext lane lanes entries version part None
@@ -96,32 +109,34 @@ part_bad lane lanes entries version part other next = record { no_mark = no_firs
 -- ---- parts that are read one after the other
 
 -- no part is read
-pub nothing_read : (lane lanes : ℕ) (past : Past) → past.history.entries ≡ [] → past.version ≡ First → IsPast lane lanes [] past
-nothing_read lane lanes past none first = record {
+pub nothing_read : (lane lanes : ℕ) (past : Past) → past.history.entries ≡ [] → past.version ≡ First → StandsFor past.book past.history.entries → IsPast lane lanes [] past
+nothing_read lane lanes past none first book = record {
+  book = book;
   written = subst (λ (v : Version). AreWritten v past.history.entries []) (sym first) (subst (All (IsOfVersion First)) (sym none) (λ k d below. absurd (omega arith)), ap (parts_in First) (sym none));
   history = subst (IsHistory lane lanes) (sym none) (record { legal = tt; of_lane = λ k d below. absurd (omega arith) });
 }
 
 past_of : (lane lanes : ℕ) (parts : List (List ℕ)) (past : Past) (entries : List Entry) (version : Version) → past.history.entries ≡ entries → past.version ≡ version
-    → AreWritten version entries parts → IsHistory lane lanes entries → IsPast lane lanes parts past
-past_of lane lanes parts past entries version same goes written history = record {
+    → AreWritten version entries parts → IsHistory lane lanes entries → StandsFor past.book past.history.entries → IsPast lane lanes parts past
+past_of lane lanes parts past entries version same goes written history book = record {
+  book = book;
   written = subst (λ (v : Version). AreWritten v past.history.entries parts) (sym goes) (subst (λ (e : List Entry). AreWritten version e parts) (sym same) written);
   history = subst (IsHistory lane lanes) (sym same) history;
 }
 
 mark_read : (lane lanes : ℕ) (parts : List (List ℕ)) (old new : Past) (part : List ℕ) (version : Version) → old.version ≡ version → IsPast lane lanes parts old → IsFirstMark version part
-    → new.history.entries ≡ old.history.entries → new.version ≡ Second → IsPast lane lanes (parts ++ part ∷ []) new
-mark_read lane lanes parts old new part First was past is same second =
+    → new.history.entries ≡ old.history.entries → new.version ≡ Second → StandsFor new.book new.history.entries → IsPast lane lanes (parts ++ part ∷ []) new
+mark_read lane lanes parts old new part First was past is same second book =
     past_of lane lanes (parts ++ part ∷ []) new old.history.entries Second same second
     (subst (λ (p : List ℕ). AreWritten Second old.history.entries (parts ++ p ∷ [])) (sym is)
-    (written_mark old.history.entries parts (subst (λ (v : Version). AreWritten v old.history.entries parts) was past.written))) past.history
-mark_read lane lanes parts old new part Second was past is same second = absurd is
+    (written_mark old.history.entries parts (subst (λ (v : Version). AreWritten v old.history.entries parts) was past.written))) past.history book
+mark_read lane lanes parts old new part Second was past is same second book = absurd is
 
 -- a part more
 pub read_more : (lane lanes : ℕ) (parts : List (List ℕ)) (old new : Past) (part : List ℕ) → IsPast lane lanes parts old → IsTaken lane lanes old part true new
-    → IsPast lane lanes (parts ++ part ∷ []) new
-read_more lane lanes parts old new part past (inl marked) = mark_read lane lanes parts old new part old.version refl past marked.0 marked.1 marked.2
-read_more lane lanes parts old new part past (inr added) =
+    → StandsFor new.book new.history.entries → IsPast lane lanes (parts ++ part ∷ []) new
+read_more lane lanes parts old new part past (inl marked) book = mark_read lane lanes parts old new part old.version refl past marked.0 marked.1 marked.2 book
+read_more lane lanes parts old new part past (inr added) book =
     let entry = added.0 in
     let next = added.1 in
     past_of lane lanes (parts ++ part ∷ []) new (old.history.entries ++ entry ∷ []) old.version added.2 added.3
@@ -130,6 +145,7 @@ read_more lane lanes parts old new part past (inr added) =
       legal = IsLegal-push old.history.entries entry past.history.legal next.3;
       of_lane = All-push (IsEntryOf lane lanes) old.history.entries entry past.history.of_lane next.1;
     })
+    book
 
 -- how many parts entries have
 pub parts_long : (version : Version) (entries : List Entry) (parts : List (List ℕ)) → AreWritten version entries parts → length parts ≡ length entries + marks version
@@ -156,11 +172,12 @@ read_stops lane lanes first rest past part all spelled read bad = record {
 
 -- the same of parts in a list
 pub read_one : (lane lanes : ℕ) (parts : List (List ℕ)) (count : ℕ) (old new : Past) (part : List ℕ) → count < length parts → part ≡ get_or parts count part
-    → IsPast lane lanes (take count parts) old → IsTaken lane lanes old part true new → IsPast lane lanes (take (count + 1) parts) new
-read_one lane lanes parts count old new part below is past taken =
+    → IsPast lane lanes (take count parts) old → IsTaken lane lanes old part true new → StandsFor new.book new.history.entries
+    → IsPast lane lanes (take (count + 1) parts) new
+read_one lane lanes parts count old new part below is past taken book =
     subst (λ (p : List (List ℕ)). IsPast lane lanes p new)
     (ap (λ (p : List ℕ). take count parts ++ p ∷ []) is ∙ sym (take_more parts count part below))
-    (read_more lane lanes (take count parts) old new part past taken)
+    (read_more lane lanes (take count parts) old new part past taken book)
 
 pub stops_at : (lane lanes : ℕ) (parts : List (List ℕ)) (count : ℕ) (past : Past) (part : List ℕ) → count < length parts → part ≡ get_or parts count part
     → IsPast lane lanes (take count parts) past → IsBad lane lanes past.history.entries past.version part → StopsAt lane lanes parts (number_behind past)

@@ -267,16 +267,16 @@ module _ {D B C : Type 0} (told : Meaning D B C) where
     IsMadeOf journal = (journal ≡ record { lane = lane; lanes = lanes; entries = past.history.entries; length = journal.length; room = 0 }) × IsGoingOn told mid new past.version len journal.length
 
     pub answered : (result : Result JournalValue LogErr) → IfOk result IsMadeOf → IfErr result IsWantOrFault → OpeningAnswer lane lanes (told.seen old) result
-    answered (Ok journal) made want = opened_of journal made.0
-    answered (Err error) made want = wanting_refuses lane lanes (parts_of (journal_head lane lanes) (told.seen old)) error want
+    answered (Ok journal) is_made want = opened_of journal is_made.0
+    answered (Err error) is_made want = wanting_refuses lane lanes (parts_of (journal_head lane lanes) (told.seen old)) error want
 
     pub readied : (result : Result JournalValue LogErr) → Tells told mid → IfOk result IsMadeOf → IfOk result (IsReady told new)
-    readied (Ok journal) tells made = opened_ready journal made.0 tells made.1
-    readied (Err error) tells made = tt
+    readied (Ok journal) tells is_made = opened_ready journal is_made.0 tells is_made.1
+    readied (Err error) tells is_made = tt
 
     pub lefted : (result : Result JournalValue LogErr) → Tells told mid → IfOk result IsMadeOf → IfOk result (IsOpenedTo (told.seen old) (told.seen new))
-    lefted (Ok journal) tells made = opened_to journal made.0 tells made.1
-    lefted (Err error) tells made = tt
+    lefted (Ok journal) tells is_made = opened_to journal is_made.0 tells is_made.1
+    lefted (Err error) tells is_made = tt
 
   -- a refusal behind an opening of the log cuts off at most what lies behind its gate
   pub cut_alone : (old mid new : D) (lane lanes len : ℕ) (said : List ℕ) → said ≡ journal_head lane lanes → IsOpened said (told.seen old) (told.seen mid) len → told.seen new ≡ told.seen mid

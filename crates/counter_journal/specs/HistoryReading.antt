@@ -1,5 +1,6 @@
 -- How the history of a lane is read from the parts of its log.
 use Rattle.std.specs.Prelude.{◌≡◌, ◌≢◌, ◌⊎◌, ℕ, ◌+◌, ◌%◌, Bool, true, false, ◌==◌, ◌&&◌, is_none, Option, Some, None, List, ◌∷◌, [], ◌++◌, length, reverse, Result, Ok, Err}
+use Rattle.keyset_book.specs.Book.{StandsFor}
 use Rattle.gate_log.specs.declared.log_errors.LogErr.{LogErr}
 use Rattle.gate_log.specs.declared.log_errors.LogErr.TheVariants as log_err
 use Rattle.gate_log.specs.Reading.{Reading}
@@ -54,16 +55,17 @@ IsTaken lane lanes old part false new = IsBad lane lanes old.history.entries old
 
 -- version 2 begins, where it hadn't
 abbrev pub IsMarkTaken : Past → Bool → Past → Type 0
-IsMarkTaken old taken new = (taken ≡ is_first old.version) × (new.history ≡ old.history) × (new.version ≡ Second)
+IsMarkTaken old taken new = (taken ≡ is_first old.version) × (new.history ≡ old.history) × (new.book ≡ old.book) × (new.version ≡ Second)
 
 -- the number, from 1, of the part behind those that were read
 abbrev pub number_behind : Past → ℕ
 number_behind past = length past.history.entries + marks past.version + 1
 
--- the parts are the history that was read, in the version in which the next one is read
+-- the parts are the history that was read, with its book, in the version in which the next one is read
 pub record IsPast (lane lanes : ℕ) (parts : List (List ℕ)) (past : Past) : Type 0 where
   pub written : AreWritten past.version past.history.entries parts
   pub history : IsHistory lane lanes past.history.entries
+  pub book : StandsFor past.book past.history.entries
 
 -- what is read of parts
 abbrev pub HistoryAnswer : ℕ → ℕ → List (List ℕ) → Result Past LogErr → Type 0
