@@ -9,6 +9,7 @@ mod formats;
 mod heads;
 mod histories_read;
 mod journals;
+mod kept_books;
 mod laws;
 mod marks;
 mod versions;
