@@ -1,4 +1,5 @@
 pub mod Octets
+pub mod Windowed
 pub mod Steps
 pub mod Loops
 pub mod Opened

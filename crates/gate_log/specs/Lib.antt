@@ -7,6 +7,9 @@ pub mod Walks
 pub mod Readings
 pub mod Making
 pub mod Answers
+pub mod Windows
+pub mod Alignment
+pub mod ReadingLaws
 pub mod Steps
 pub mod Opening
 pub mod Formatting

@@ -14,6 +14,7 @@ mod log_errors;
 mod logs;
 mod measures;
 mod walks;
+mod windows;
 
 pub use appends::append;
 pub use batches::Batch;
