@@ -1,5 +1,6 @@
 pub mod Octets
 pub mod Windowed
+pub mod Framed
 pub mod Steps
 pub mod Loops
 pub mod Opened

@@ -10,6 +10,7 @@ pub mod Answers
 pub mod Windows
 pub mod Alignment
 pub mod ReadingLaws
+pub mod BatchesRead
 pub mod Steps
 pub mod Opening
 pub mod Formatting

@@ -6,6 +6,7 @@
 
 mod appends;
 mod batches;
+mod batches_read;
 mod contents;
 mod formats;
 mod headings;
@@ -13,6 +14,7 @@ mod laws;
 mod log_errors;
 mod logs;
 mod measures;
+mod standings;
 mod walks;
 mod windows;
 

@@ -82,7 +82,8 @@ impl Windows {
 
     /// How many octets are not gone over.
     pub(crate) fn octets_left(&self) -> u64
-        ensures { result ≡ length self.now.ahead + (self.now.long - self.now.read) }
+        ensures count { result ≡ length self.now.ahead + (self.now.long - self.now.read) }
+        ensures within { IsWithin self.now }
     {
         (self.window.len() - self.over) as u64 + (self.long - self.read)
     }
