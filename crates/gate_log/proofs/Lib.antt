@@ -6,3 +6,4 @@ pub mod Loops
 pub mod Opened
 pub mod Made
 pub mod Appended
+pub mod ReaderParts

@@ -48,7 +48,7 @@ found_within head octets parts None read = tt
 found_within head octets parts (Some n) read =
     omega (arith, log_long head octets parts read.0 read.1, read.2)
 
-formatted_by : (found : Heading) → Ok tt ≡ heading_answer found → found ≡ heading.Formatted
+pub formatted_by : (found : Heading) → Ok tt ≡ heading_answer found → found ≡ heading.Formatted
 formatted_by heading.Unformatted e = absurd cc
 formatted_by heading.NotALog e = absurd cc
 formatted_by (heading.OtherHead rest) e = absurd cc

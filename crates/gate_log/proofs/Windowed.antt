@@ -1,8 +1,9 @@
 -- What is read through windows.
 use Rattle.std.proofs.Common.{◌≡◌, ◌⊎◌, ℕ, ◌+◌, ◌-◌, ◌<◌, ◌≤◌, List, [], ◌++◌, length, take, drop, Ok, inl, inr, refl, sym, ◌∙◌, ap, subst, arith, append_assoc, length-append, length-take, length-drop, take-append-drop}
+use Rattle.std.specs.Prelude.{min}
 use Rattle.std.proofs.Math.Seq.{take-append-add}
 use Rattle.std.proofs.lemmas.Bool.{cases_lt}
-use Rattle.std.proofs.lemmas.List.{drop-drop, take-take, take-append-le, drop-append-le, drop_all, take_all, drop_at, append-nil}
+use Rattle.std.proofs.lemmas.List.{drop-drop, take-take, take-append-le, drop-append-le, drop_all, take_all, drop_at, append-nil, take_min}
 use Rattle.disk_model.specs.Counts.{Counts}
 use Rattle.disk_model.specs.Disk.{Meaning, Tells, Reads}
 use Rattle.gate_log.specs.Windows.{WindowsState, rest_of, Looks, IsTaken, IsWithin}
@@ -176,3 +177,7 @@ module _ {D B C : Type 0} (told : Meaning D B C) (counts : D → Counts) where
             then_given text before middle after count wanted still was between now (then_filled text before middle count wanted was is between so_far behind)
             (subst (λ (n : ℕ). IsSoFar text middle after wanted n between now) (sym still_is) given);
       }
+
+-- a window holds as much as there is, up to its size
+pub window_is : (octets : List ℕ) (count : ℕ) → count ≡ min 65536 (length octets) → take count octets ≡ take 65536 octets
+window_is octets count is = ap (λ (n : ℕ). take n octets) is ∙ take_min 65536 octets

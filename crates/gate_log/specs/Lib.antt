@@ -11,6 +11,9 @@ pub mod Windows
 pub mod Alignment
 pub mod ReadingLaws
 pub mod BatchesRead
+pub mod Readers
+pub mod ReaderKept
+pub mod ReaderSteps
 pub mod Steps
 pub mod Opening
 pub mod Formatting

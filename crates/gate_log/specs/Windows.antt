@@ -1,5 +1,5 @@
 -- The octets of a disk, read one window after another.
-use Rattle.std.specs.Prelude.{◌≡◌, ℕ, ◌+◌, ◌/◌, ◌<◌, ◌≤◌, Bool, true, false, List, ◌++◌, length, take, drop, Result, Ok, Err, IfErr, OnOk}
+use Rattle.std.specs.Prelude.{◌≡◌, ℕ, ◌+◌, ◌/◌, ◌^◌, ◌<◌, ◌≤◌, Bool, true, false, List, ◌++◌, length, take, drop, Result, Ok, Err, IfErr, OnOk}
 use Rattle.disk_model.specs.Counts.{Counts}
 use Rattle.disk_model.specs.Disk.{Meaning, Tells, image_now, DiskRun}
 use Rattle.gate_log.specs.declared.log_errors.LogErr.{LogErr}
@@ -15,10 +15,11 @@ pub record WindowsState : Type 0 where
 abbrev pub rest_of : List ℕ → WindowsState → List ℕ
 rest_of text windows = windows.ahead ++ drop windows.read text
 
--- no more was gone over than read, and no more read than there is
+-- no more was gone over than read, no more read than there is, and no more is there than memory could hold
 pub record IsWithin (windows : WindowsState) : Type 0 where
   pub ahead : length windows.ahead ≤ windows.read
   pub read : windows.read ≤ windows.long
+  pub fits : windows.long < 2 ^ 63
 
 -- how many windows of 65,536 octets so many octets take
 abbrev pub windows_in : ℕ → ℕ

@@ -14,6 +14,7 @@ mod laws;
 mod log_errors;
 mod logs;
 mod measures;
+mod readers;
 mod standings;
 mod walks;
 mod windows;
@@ -24,6 +25,7 @@ pub use formats::format;
 pub use laws::spelled_logs_open;
 pub use log_errors::LogErr;
 pub use logs::{Log, open, records, sound_records};
+pub use readers::LogReader;
 
 #[cfg(test)]
 mod tests;

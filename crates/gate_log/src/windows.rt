@@ -101,6 +101,8 @@ impl Windows {
         requires more { self.old.read < self.old.long }
         ensures rest { Tells D.told disk.old → self.old.long ≡ length (D.told.seen disk.old)
             → OnOk result (rest_of (D.told.seen disk.old) self.new ≡ drop self.old.read (D.told.seen disk.old)) }
+        ensures window { Tells D.told disk.old → self.old.long ≡ length (D.told.seen disk.old)
+            → OnOk result (self.new.ahead ≡ take 65536 (drop self.old.read (D.told.seen disk.old))) }
         ensures smaller { OnOk result (self.new.long - self.new.read < self.old.long - self.old.read) }
         ensures place { self.new.read ≡ self.old.read + length self.new.ahead }
         ensures within { IsWithin self.new }
@@ -117,6 +119,20 @@ impl Windows {
             self.long = self.read;
         }
         Ok(())
+    }
+
+    /// Reads the first window.
+    pub(crate) fn first<D: DiskCalls>(&mut self, disk: &mut D) -> Result<(), LogErr>
+        requires none { (self.old.ahead ≡ []) × (self.old.read ≡ 0) }
+        ensures octets { Tells D.told disk.old → self.old.long ≡ length (D.told.seen disk.old)
+            → OnOk result ((self.new.ahead ≡ take 65536 (D.told.seen disk.old)) × (rest_of (D.told.seen disk.old) self.new ≡ D.told.seen disk.old)) }
+        ensures within { IsWithin self.new }
+        ensures looks { Looks D.told D.counts disk.old disk.new self.old self.new result }
+    {
+        if !self.has_more() {
+            return Ok(());
+        }
+        self.fill(disk)
     }
 
     /// Adds octets that were read to others, at most so many, and says how many are still wanted.
