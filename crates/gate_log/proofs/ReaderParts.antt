@@ -1,8 +1,9 @@
 -- How a reading goes on, part by part.
 use Rattle.std.proofs.Common.{◌≡◌, ◌⊎◌, ℕ, ◌+◌, ◌-◌, ◌<◌, ◌≤◌, Bool, true, false, Option, Some, None, List, [], ◌∷◌, ◌++◌, length, take, drop, inl, inr, refl, sym, ◌∙◌, ap, subst, arith, append_assoc, length-append, length-take, length-drop}
-use Rattle.std.specs.Prelude.{is_some, unwrap_or}
+use Rattle.std.specs.Prelude.{is_some, unwrap_or, Result, Ok, Err}
 use Rattle.std.specs.Option.{option_map}
-use Rattle.std.proofs.lemmas.List.{drop-drop, append-nil, take-take}
+use Rattle.std.proofs.lemmas.List.{drop-drop, append-nil, take-take, drop-append-le}
+use Rattle.std.proofs.Math.Seq.{drop-nil}
 use Rattle.gate_log.specs.declared.standings.Standing.{Standing}
 use Rattle.gate_log.specs.declared.standings.Standing.TheVariants as standing
 use Rattle.gate_log.specs.declared.headings.Heading.{Heading}
@@ -10,9 +11,12 @@ use Rattle.gate_log.specs.declared.headings.Heading.TheVariants as heading
 use Rattle.gate_log.specs.Reading.{Reading, Walk, measured, parts_from, parts_of, behind_parts, walk_from, reading_of_walk, heading_of}
 use Rattle.gate_log.specs.Reading.Walk.{Ended, Broken}
 use Rattle.gate_log.specs.Reading.Reading.{Unformatted, NotALog, OtherHead, Damaged, Opened}
+use Rattle.gate_log.specs.declared.log_errors.LogErr.{LogErr}
+use Rattle.gate_log.specs.declared.log_errors.LogErr.TheVariants as log_err
+use Rattle.gate_log.specs.Answers.{Refuses, heading_answer}
 use Rattle.gate_log.specs.Measures.{measured_some, parts_step, parts_done}
 use Rattle.gate_log.specs.Walks.{behind_none, behind_more}
-use Rattle.gate_log.specs.Windows.{WindowsState, rest_of}
+use Rattle.gate_log.specs.Windows.{WindowsState, rest_of, IsWithin}
 use Rattle.gate_log.specs.BatchesRead.{IsStepRead, IsHeld}
 use Rattle.gate_log.specs.Readers.{ReaderState, has_ended, octets_left, in_front, parts_in, left_at, left, IsReading, IsReadTo, IsReadOn, IsCounted}
 use Rattle.gate_log.specs.ReaderKept.{IsReader}
@@ -184,3 +188,58 @@ counted_on old mid new reached false gives =
 pub heading_window : (head text : List ℕ) → heading_of head (take 65536 text) ≡ heading_of head text
 heading_window head text =
     sym (heading-take head (take 65536 text)) ∙ ap (heading_of head) (take-take 12 65536 text (omega arith)) ∙ heading-take head text
+
+refuses_by : (head text : List ℕ) (found : Heading) (error : LogErr) → Err error ≡ heading_answer found → heading_of head text ≡ found → Refuses (parts_of head text) error
+refuses_by head text heading.Unformatted error e is =
+    let error_is : error ≡ log_err.Unformatted = cc in subst (λ (x : LogErr). Refuses (parts_of head text) x) (sym error_is) (parts_by head text heading.Unformatted is)
+refuses_by head text heading.NotALog error e is =
+    let error_is : error ≡ log_err.NotALog = cc in subst (λ (x : LogErr). Refuses (parts_of head text) x) (sym error_is) (parts_by head text heading.NotALog is)
+refuses_by head text (heading.OtherHead rest) error e is =
+    let error_is : error ≡ log_err.OtherHead rest = cc in subst (λ (x : LogErr). Refuses (parts_of head text) x) (sym error_is) (parts_by head text (heading.OtherHead rest) is)
+refuses_by head text heading.Formatted error e is = absurd cc
+
+-- what is refused for its first window
+pub window_refuses : (head text window : List ℕ) (error : LogErr) → window ≡ take 65536 text → Err error ≡ heading_answer (heading_of head window) → Refuses (parts_of head text) error
+window_refuses head text window error is e =
+    refuses_by head text (heading_of head window) error e (sym (ap (heading_of head) is ∙ heading_window head text))
+
+-- a reading of what is a log by its first window
+pub began : (head text window : List ℕ) (windows : WindowsState) (reader : ReaderState) → window ≡ take 65536 text → Ok (tt {0}) ≡ heading_answer (heading_of head window) → 11 ≤ length window
+    → windows.ahead ≡ window → rest_of text windows ≡ text → windows.long ≡ length text
+    → reader.windows ≡ record { ahead = drop 10 windows.ahead; read = windows.read; long = windows.long } → reader.batch ≡ [] → reader.standing ≡ standing.Going → reader.given ≡ 0
+    → IsReading head text [] reader
+began head text window windows reader is e long ahead rest size windows_are batch going given =
+    let formatted : heading_of head text ≡ heading.Formatted = sym (ap (heading_of head) is ∙ heading_window head text) ∙ formatted_by (heading_of head window) e in
+    let passed : rest_of text reader.windows ≡ drop 10 text =
+    ap (rest_of text) windows_are
+    ∙ sym (drop-append-le 10 windows.ahead (drop windows.read text) (omega (arith, long, ap length ahead)))
+    ∙ ap (drop 10) rest in
+    record {
+      long = ap (λ (w : WindowsState). w.long) windows_are ∙ size;
+      number = given;
+      all = ap (in_front []) (left_by reader text standing.Going [] reader.windows going batch refl ∙ left_none (rest_of text reader.windows))
+          ∙ in_front_none (walk_from 0 (rest_of text reader.windows))
+          ∙ ap (λ (l : List ℕ). reading_of_walk (walk_from 0 l)) passed
+          ∙ sym (parts_by head text heading.Formatted formatted);
+    }
+
+pub batch_none : (octets : List ℕ) (n : ℕ) → octets ≡ [] → drop n octets ≡ []
+batch_none [] n is = drop-nil n
+batch_none (x ∷ octets) n is = absurd cc
+
+-- how a reading is kept that has just begun
+pub reader_began : (octets : List ℕ) (size : ℕ) (before windows : WindowsState) → octets ≡ [] → windows ≡ record { ahead = drop 10 before.ahead; read = before.read; long = before.long }
+    → 11 ≤ length before.ahead → IsWithin before → IsReader octets size 0 0 0 windows standing.Going
+reader_began octets size before windows none is long within =
+    let ahead = ap (λ (w : WindowsState). length w.ahead) is in
+    let read : windows.read ≡ before.read = ap (λ (w : WindowsState). w.read) is in
+    let whole : windows.long ≡ before.long = ap (λ (w : WindowsState). w.long) is in
+    let size_ahead = length-drop 10 before.ahead in
+    record {
+      inside = omega arith;
+      framed = ap (λ (l : List ℕ). is_some (parts_from 0 l)) (batch_none octets (size - 0) none) ∙ ap (λ (f : Option (List (List ℕ))). is_some f) parts_done;
+      within = record { ahead = omega (arith, ahead, size_ahead, read, within.ahead); read = omega (arith, read, whole, within.read); fits = omega (arith, whole, within.fits) };
+      counted = omega (arith, ahead, size_ahead, read, long, within.ahead);
+      going = inl refl;
+      closed = λ closed. absurd (let never : standing.Going ≡ standing.Closed = closed in cc never);
+    }

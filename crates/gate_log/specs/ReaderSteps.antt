@@ -1,5 +1,7 @@
 -- The steps of a reading.
-use Rattle.std.specs.Prelude.{◌≡◌, ◌⊎◌, ℕ, ◌+◌, ◌-◌, ◌<◌, ◌≤◌, Bool, true, false, is_some, Some, List, [], ◌∷◌, ◌++◌, length}
+use Rattle.std.specs.Prelude.{◌≡◌, ◌⊎◌, ℕ, ◌+◌, ◌-◌, ◌<◌, ◌≤◌, Bool, true, false, is_some, Some, List, [], ◌∷◌, ◌++◌, length, Result, Ok, Err}
+use Rattle.gate_log.specs.declared.log_errors.LogErr.{LogErr}
+use Rattle.gate_log.specs.declared.log_errors.LogErr.TheVariants as log_err
 use Rattle.gate_log.specs.declared.standings.Standing.{Standing}
 use Rattle.gate_log.specs.declared.standings.Standing.TheVariants.{Going, Closed, Damaged}
 use Rattle.gate_log.specs.Reading.{measured, parts_from}
@@ -22,3 +24,8 @@ abbrev pub body_length : Standing → List ℕ → ℕ
 body_length Going room = length room - 5
 body_length Closed room = 0
 body_length Damaged room = 0
+
+-- the log ended in a closed gate, or in a batch that is damaged
+abbrev pub EndAnswer : ReaderState → Result (Unit {0}) LogErr → Type 0
+EndAnswer reader (Ok done) = reader.standing ≡ Closed
+EndAnswer reader (Err error) = (reader.standing ≡ Damaged) × (error ≡ log_err.Damaged (reader.given + 1))

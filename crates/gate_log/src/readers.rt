@@ -1,17 +1,20 @@
 //! A log is read part by part.
 
-ghost use Rattle.std.specs.Prelude.{◌≡◌, ◌⊎◌, ℕ, ◌+◌, ◌≤◌, ◌<◌, List, [], ◌++◌, length, take, drop, true, false, Some, IfOk, IfErr, OnOk, OnErr};
+ghost use Rattle.std.specs.Prelude.{◌≡◌, ◌⊎◌, ℕ, ◌+◌, ◌^◌, ◌≤◌, ◌<◌, List, [], ◌++◌, length, take, drop, true, false, Some, IfOk, IfErr, OnOk, OnErr};
 ghost use Rattle.disk_model.specs.Disk.{Tells, image_now, DiskRun, Only};
 ghost use Rattle.gate_log.specs.Reading.{parts_of, measured};
 ghost use Rattle.gate_log.specs.Answers.{LogCause, UnlessFault, Answers, IsNotFull, IsNotDamaged, IsWantOrFault};
 ghost use Rattle.gate_log.specs.Windows.{Looks};
-ghost use Rattle.gate_log.specs.Readers.{ReaderState, has_ended, left, IsReading, IsReadOn, IsCounted, BeginTicks, ReadOnTicks};
-ghost use Rattle.gate_log.specs.ReaderSteps.{GivesPart, IsReached, body_length};
+ghost use Rattle.gate_log.specs.Readers.{ReaderState, has_ended, left, IsReading, IsReadOn, IsCounted, ReadOnTicks, FinishAnswer, IsFinishErr};
+ghost use Rattle.gate_log.specs.Opening.{OpensAlike};
+ghost use Rattle.gate_log.specs.ReaderSteps.{GivesPart, IsReached, EndAnswer, body_length};
 ghost use Rattle.gate_log.specs.BatchesRead.{IsHeld};
-ghost use Rattle.gate_log.specs.declared.standings.Standing.TheVariants.{Going};
+ghost use Rattle.gate_log.specs.declared.standings.Standing.TheVariants.{Going, Closed};
 
 use crate::batches_read::read_step;
+use crate::contents::cut_behind;
 use crate::log_errors::LogErr;
+use crate::logs::Log;
 use crate::measures::measured;
 use crate::standings::Standing;
 use crate::walks::check_heading;
@@ -129,6 +132,50 @@ impl LogReader {
         ensures { result ≡ self.now.given }
     {
         self.given
+    }
+
+    /// Ends a reading whose parts were all given. `Damaged` has one more than their number, where a batch behind them is
+    /// damaged; else what lies behind the closed gate is cut off, where anything does, and the disk is synced.
+    ///
+    /// The disk is as the last call of the reading left it.
+    pub fn finish<D: DiskCalls>(self, disk: &mut D) -> Result<Log, LogErr>
+        requires ended { has_ended self ≡ true }
+        requires long { Tells D.told disk.old → self.windows.long ≡ length (D.told.seen disk.old) }
+        requires only { Tells D.told disk.old → Only (D.told.seen disk.old) (image_now D.told disk.old) }
+        ensures answer { Tells D.told disk.old → (head : List ℕ) (parts : List (List ℕ)) → IsReading head (D.told.seen disk.old) parts self
+            → FinishAnswer head (D.told.seen disk.old) (D.told.seen disk.new) parts result }
+        ensures same { Tells D.told disk.old → OnErr result (UnlessFault result (D.told.seen disk.new ≡ D.told.seen disk.old)) }
+        ensures durable { Tells D.told disk.old → UnlessFault result (Only (D.told.seen disk.new) (image_now D.told disk.new)) }
+        ensures moments { Tells D.told disk.old → (head : List ℕ) (parts : List (List ℕ)) → IsReading head (D.told.seen disk.old) parts self
+            → DiskRun D.told disk.old disk.new (λ image. image_now D.told disk.old image ⊎ OpensAlike head (D.told.seen disk.old) image) }
+        ensures err { IfErr result (IsFinishErr self.given) }
+        ensures tells { D.told.tells disk.new ≡ D.told.tells disk.old }
+        ensures cause { LogCause (D.counts disk.old) (D.counts disk.new) result }
+    {
+        self.ending()?;
+        let end = self.end();
+        cut_behind(disk, self.windows.long(), end)?;
+        Ok(Log::of_length(end))
+    }
+
+    /// Whether the log ends in a closed gate, and no batch is damaged.
+    pub(crate) fn ending(&self) -> Result<(), LogErr>
+        requires { has_ended self.now ≡ true }
+        ensures { EndAnswer self.now result }
+    {
+        match self.standing {
+            Standing::Damaged => Err(LogErr::Damaged(self.given + 1)),
+            _ => Ok(()),
+        }
+    }
+
+    /// The place behind the closed gate.
+    fn end(&self) -> u64
+        requires { self.now.standing ≡ Closed }
+        ensures place { result + length self.now.windows.ahead ≡ self.now.windows.read }
+        ensures within { (11 ≤ result) × (result ≤ self.now.windows.long) × (self.now.windows.read ≤ self.now.windows.long) × (self.now.windows.long < 2 ^ 63) }
+    {
+        self.windows.place()
     }
 
     /// Reads on until a part stands in front, or the end of the log.

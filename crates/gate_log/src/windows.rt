@@ -88,6 +88,13 @@ impl Windows {
         (self.window.len() - self.over) as u64 + (self.long - self.read)
     }
 
+    /// How many octets the disk has.
+    pub(crate) fn long(&self) -> u64
+        ensures { result ≡ self.now.long }
+    {
+        self.long
+    }
+
     /// How many octets are gone over.
     pub(crate) fn place(&self) -> u64
         ensures { result + length self.now.ahead ≡ self.now.read }
