@@ -7,3 +7,5 @@ pub mod Opened
 pub mod Made
 pub mod Appended
 pub mod ReaderParts
+pub mod Finished
+pub mod Turns

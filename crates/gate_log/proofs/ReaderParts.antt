@@ -131,7 +131,7 @@ left_part octets part behind rest framed m =
 
 -- ---- a turn
 
-left_by : (state : ReaderState) (text : List ℕ) (is : Standing) (batch : List ℕ) (windows : WindowsState) → state.standing ≡ is → state.batch ≡ batch → state.windows ≡ windows
+pub left_by : (state : ReaderState) (text : List ℕ) (is : Standing) (batch : List ℕ) (windows : WindowsState) → state.standing ≡ is → state.batch ≡ batch → state.windows ≡ windows
     → left state text ≡ left_at is batch (rest_of text windows)
 left_by state text is batch windows s b w =
     ap (λ (x : Standing). left_at x state.batch (rest_of text state.windows)) s
@@ -180,7 +180,8 @@ counted_on old mid new reached true gives =
     let ahead = ap (λ (w : WindowsState). length w.ahead) gives.4 in
     (omega (arith, gives.3, reached.given), omega (arith, reached.fewer, read, long, ahead, is.within, ap length is.rest_is, length-drop (4 + length new.part) mid.batch))
 counted_on old mid new reached false gives =
-    (ap (λ (s : ReaderState). s.given) gives.1 ∙ reached.given, ap (λ (s : ReaderState). has_ended s) gives.1 ∙ reached.ended gives.0)
+    let same = ap octets_left gives.1 in
+    (ap (λ (s : ReaderState). s.given) gives.1 ∙ reached.given, omega (arith, same, reached.fewer), ap (λ (s : ReaderState). has_ended s) gives.1 ∙ reached.ended gives.0)
 
 -- ---- a beginning
 

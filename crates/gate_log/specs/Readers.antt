@@ -65,10 +65,14 @@ abbrev pub IsReadOn : List ℕ → List ℕ → List (List ℕ) → Bool → Rea
 IsReadOn head text parts true reader = IsReading head text (parts ++ reader.part ∷ []) reader
 IsReadOn head text parts false reader = IsReading head text parts reader × IsReadTo parts (parts_of head text)
 
+-- all parts were given
+abbrev pub IsReadUp : List ℕ → List ℕ → ReaderState → Type 0
+IsReadUp head text reader = (parts : List (List ℕ)) × IsReading head text parts reader
+
 -- a part more was given, and fewer octets are left, or the end was reached
 abbrev pub IsCounted : ReaderState → Bool → ReaderState → Type 0
 IsCounted old true new = (new.given ≡ old.given + 1) × (octets_left new < octets_left old)
-IsCounted old false new = (new.given ≡ old.given) × (has_ended new ≡ true)
+IsCounted old false new = (new.given ≡ old.given) × (octets_left new ≤ octets_left old) × (has_ended new ≡ true)
 
 -- a log was opened that has these parts: what lay behind its gate is cut off
 pub record IsOpenedWith (head old new : List ℕ) (parts : List (List ℕ)) (len : ℕ) : Type 0 where

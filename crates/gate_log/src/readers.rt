@@ -5,7 +5,7 @@ ghost use Rattle.disk_model.specs.Disk.{Tells, image_now, DiskRun, Only};
 ghost use Rattle.gate_log.specs.Reading.{parts_of, measured};
 ghost use Rattle.gate_log.specs.Answers.{LogCause, UnlessFault, Answers, IsNotFull, IsNotDamaged, IsWantOrFault};
 ghost use Rattle.gate_log.specs.Windows.{Looks};
-ghost use Rattle.gate_log.specs.Readers.{ReaderState, has_ended, left, IsReading, IsReadOn, IsCounted, ReadOnTicks, FinishAnswer, IsFinishErr};
+ghost use Rattle.gate_log.specs.Readers.{ReaderState, has_ended, left, IsReading, IsReadOn, IsCounted, ReadOnTicks, FinishAnswer, IsFinishErr, IsReadTo, IsReadUp};
 ghost use Rattle.gate_log.specs.Opening.{OpensAlike};
 ghost use Rattle.gate_log.specs.ReaderSteps.{GivesPart, IsReached, EndAnswer, body_length};
 ghost use Rattle.gate_log.specs.BatchesRead.{IsHeld};
@@ -20,6 +20,7 @@ use crate::standings::Standing;
 use crate::walks::check_heading;
 use crate::windows::Windows;
 use disk_model::DiskCalls;
+use ota_core::Octets;
 use std::alloc::Global;
 use std::marker::Model;
 
@@ -235,4 +236,44 @@ fn body_length(standing: Standing, room: &[u8]) -> usize
         Standing::Going => room.len() - 5,
         _ => 0,
     }
+}
+
+/// Reads on to the end of the log.
+pub(crate) fn read_through<D: DiskCalls>(
+    reader: &mut LogReader,
+    disk: &mut D,
+) -> Result<(), LogErr>
+    ensures reading { Tells D.told disk.old → (head : List ℕ) (parts : List (List ℕ)) → IsReading head (D.told.seen disk.old) parts reader.old
+        → OnOk result (IsReadUp head (D.told.seen disk.new) reader.new) }
+    ensures ended { OnOk result (has_ended reader.new ≡ true) }
+    ensures content { Tells D.told disk.old → UnlessFault result (D.told.seen disk.new ≡ D.told.seen disk.old) }
+    ensures moments { Tells D.told disk.old → DiskRun D.told disk.old disk.new (image_now D.told disk.old) }
+    ensures tells { D.told.tells disk.new ≡ D.told.tells disk.old }
+    ensures cause { LogCause (D.counts disk.old) (D.counts disk.new) result }
+    ensures err { IfErr result IsWantOrFault }
+{
+    while reader.next_part(disk)? {}
+    Ok(())
+}
+
+/// Reads on to the end of the log, and gives all parts.
+pub(crate) fn read_parts<D: DiskCalls>(
+    alloc: Global,
+    reader: &mut LogReader,
+    disk: &mut D,
+) -> Result<Vec<Octets>, LogErr>
+    ensures reading { Tells D.told disk.old → (head : List ℕ) → IsReading head (D.told.seen disk.old) [] reader.old
+        → IfOk result (λ parts. IsReading head (D.told.seen disk.old) parts.items reader.new × IsReadTo parts.items (parts_of head (D.told.seen disk.old))) }
+    ensures ended { OnOk result (has_ended reader.new ≡ true) }
+    ensures content { Tells D.told disk.old → UnlessFault result (D.told.seen disk.new ≡ D.told.seen disk.old) }
+    ensures moments { Tells D.told disk.old → DiskRun D.told disk.old disk.new (image_now D.told disk.old) }
+    ensures tells { D.told.tells disk.new ≡ D.told.tells disk.old }
+    ensures cause { LogCause (D.counts disk.old) (D.counts disk.new) result }
+    ensures err { IfErr result IsWantOrFault }
+{
+    let mut parts = Vec::new(alloc);
+    while reader.next_part(disk)? {
+        parts.push(Octets::from_slice(alloc, reader.part())?)?;
+    }
+    Ok(parts)
 }
