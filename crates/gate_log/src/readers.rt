@@ -244,7 +244,7 @@ pub(crate) fn read_through<D: DiskCalls>(
     disk: &mut D,
 ) -> Result<(), LogErr>
     ensures reading { Tells D.told disk.old → (head : List ℕ) (parts : List (List ℕ)) → IsReading head (D.told.seen disk.old) parts reader.old
-        → OnOk result (IsReadUp head (D.told.seen disk.new) reader.new) }
+        → OnOk result (IsReadUp head (D.told.seen disk.old) reader.new) }
     ensures ended { OnOk result (has_ended reader.new ≡ true) }
     ensures content { Tells D.told disk.old → UnlessFault result (D.told.seen disk.new ≡ D.told.seen disk.old) }
     ensures moments { Tells D.told disk.old → DiskRun D.told disk.old disk.new (image_now D.told disk.old) }
