@@ -38,7 +38,7 @@ parts_end parts [] e =
 
 -- ---- a step of a walk
 
-first_of : (octets : List ℕ) → 0 < length octets → octets ≡ get_or octets 0 0 ∷ drop 1 octets
+pub first_of : (octets : List ℕ) → 0 < length octets → octets ≡ get_or octets 0 0 ∷ drop 1 octets
 first_of octets some = split_at octets 0 some
 
 pub step_missing : (octets : List ℕ) → length octets ≡ 0 → walk_from 0 octets ≡ Broken []

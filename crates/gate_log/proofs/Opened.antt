@@ -48,7 +48,7 @@ found_within head octets parts None read = tt
 found_within head octets parts (Some n) read =
     omega (arith, log_long head octets parts read.0 read.1, read.2)
 
-formatted_by : (found : Heading) → Ok tt ≡ heading_answer found → found ≡ heading.Formatted
+pub formatted_by : (found : Heading) → Ok tt ≡ heading_answer found → found ≡ heading.Formatted
 formatted_by heading.Unformatted e = absurd cc
 formatted_by heading.NotALog e = absurd cc
 formatted_by (heading.OtherHead rest) e = absurd cc
@@ -70,7 +70,7 @@ found_behind head octets parts size is found =
 
 module _ (head octets : List ℕ) (len : ℕ) (at : OpensAt (parts_of head octets) (length octets) len) where
   -- at least the gate stays
-  cut_alike : (image : List ℕ) → Cut len octets image → OpensAlike head octets image
+  pub cut_alike : (image : List ℕ) → Cut len octets image → OpensAlike head octets image
   cut_alike image cut =
       let le : len ≤ length image = omega (arith, cut.no_shorter, at.3) in
       let opens = cut_again head octets at.0 at.1 at.2 len at.3 (length image) le in

@@ -7,6 +7,13 @@ pub mod Walks
 pub mod Readings
 pub mod Making
 pub mod Answers
+pub mod Windows
+pub mod Alignment
+pub mod ReadingLaws
+pub mod BatchesRead
+pub mod Readers
+pub mod ReaderKept
+pub mod ReaderSteps
 pub mod Steps
 pub mod Opening
 pub mod Formatting

@@ -6,6 +6,7 @@
 
 mod appends;
 mod batches;
+mod batches_read;
 mod contents;
 mod formats;
 mod headings;
@@ -13,7 +14,10 @@ mod laws;
 mod log_errors;
 mod logs;
 mod measures;
+mod readers;
+mod standings;
 mod walks;
+mod windows;
 
 pub use appends::append;
 pub use batches::Batch;
@@ -21,6 +25,7 @@ pub use formats::format;
 pub use laws::spelled_logs_open;
 pub use log_errors::LogErr;
 pub use logs::{Log, open, records, sound_records};
+pub use readers::LogReader;
 
 #[cfg(test)]
 mod tests;

@@ -40,6 +40,15 @@ impl Model for Log {
 const LIMIT: u64 = 16_777_216;
 
 impl Log {
+    /// A log of this length in octets.
+    pub(crate) fn of_length(len: u64) -> Log
+        requires long { 11 ≤ len }
+        requires fits { len < 2 ^ 63 }
+        ensures { result ≡ len }
+    {
+        Log { len }
+    }
+
     /// The log's length in octets.
     pub fn length(&self) -> u64
         ensures { result ≡ self.now }

@@ -8,7 +8,7 @@ use ota_core::{Memory, Octets};
 use std::alloc::Global;
 
 /// The number that the first four octets say.
-fn size_at(octets: &[u8]) -> u32
+pub(crate) fn size_at(octets: &[u8]) -> u32
     requires { 4 ≤ length octets.now }
     ensures { result ≡ size_at octets.now }
 {
@@ -17,7 +17,7 @@ fn size_at(octets: &[u8]) -> u32
 
 /// The octets behind their length, so many, and what follows them; None where they run past the end.
 #[tactic(auto, unfolding(crate::specs::Reading::measured))]
-fn measured(octets: &[u8]) -> Option<(&[u8], &[u8])>
+pub(crate) fn measured(octets: &[u8]) -> Option<(&[u8], &[u8])>
     ensures found { option_map (λ m. (m.0.now, m.1.now)) result ≡ measured octets.now }
     ensures whole { IfSome result (λ m. 4 + length m.0.now + length m.1.now ≡ length octets.now) }
 {

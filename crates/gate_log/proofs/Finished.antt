@@ -1,0 +1,47 @@
+-- How a reading ends.
+use Rattle.std.proofs.Common.{◌≡◌, ◌⊎◌, ℕ, ◌+◌, ◌-◌, ◌≤◌, List, [], ◌++◌, length, take, drop, refl, inl, inr, sym, ◌∙◌, ap, subst, arith, length-append, length-drop}
+use Rattle.std.proofs.lemmas.List.{append-nil}
+use Rattle.disk_model.specs.Disk.{Meaning, DiskRun, Cut, image_now}
+use Rattle.disk_model.specs.Runs.{weaker}
+use Rattle.gate_log.specs.declared.standings.Standing.TheVariants as standing
+use Rattle.gate_log.specs.Reading.{parts_of}
+use Rattle.gate_log.specs.Reading.Reading.{Opened}
+use Rattle.gate_log.specs.Answers.{OpensAt}
+use Rattle.gate_log.specs.Opening.{OpensAlike}
+use Rattle.gate_log.specs.Windows.{rest_of}
+use Rattle.gate_log.specs.Readers.{ReaderState, in_front, IsReading, IsOpenedWith}
+use Rattle.gate_log.specs.Readings.{cut_again}
+use Rattle.gate_log.proofs.Opened.{cut_alike}
+use Rattle.gate_log.proofs.ReaderParts.{left_by}
+
+module _ (head text : List ℕ) (parts : List (List ℕ)) (reader : ReaderState) (end : ℕ) (reading : IsReading head text parts reader) (closed : reader.standing ≡ standing.Closed)
+  (place : end + length reader.windows.ahead ≡ reader.windows.read) (within : reader.windows.read ≤ reader.windows.long) where
+  read_all : parts_of head text ≡ Opened parts (rest_of text reader.windows)
+  read_all =
+      sym reading.all
+      ∙ ap (in_front parts) (left_by reader text standing.Closed reader.batch reader.windows closed refl refl)
+      ∙ ap (λ (l : List (List ℕ)). Opened l (rest_of text reader.windows)) (append-nil parts)
+
+  size : end + length (rest_of text reader.windows) ≡ length text
+  size = omega (arith, place, within, reading.long, length-append reader.windows.ahead (drop reader.windows.read text), length-drop reader.windows.read text)
+
+  pub ends_at : OpensAt (parts_of head text) (length text) end
+  ends_at = (parts, rest_of text reader.windows, read_all, size)
+
+  pub opened_with : (new : List ℕ) (len : ℕ) → len ≡ end → new ≡ take end text → IsOpenedWith head text new parts len
+  opened_with new len same cut =
+      let zero_more : end - end ≡ 0 = omega arith in
+      let none : take (end - end) (rest_of text reader.windows) ≡ [] = ap (λ (k : ℕ). take k (rest_of text reader.windows)) zero_more in
+      record {
+        behind = rest_of text reader.windows;
+        was = read_all;
+        is = ap (parts_of head) cut ∙ cut_again head text parts (rest_of text reader.windows) read_all end size end (omega arith) ∙ ap (λ (l : List ℕ). Opened parts l) none;
+        cut = cut ∙ ap (λ (n : ℕ). take n text) (sym same);
+        long = ap (λ (n : ℕ). n + length (rest_of text reader.windows)) same ∙ size;
+      }
+
+module _ {D B C : Type 0} (told : Meaning D B C) where
+  pub finish_run : (old new : D) (head : List ℕ) (len : ℕ) → OpensAt (parts_of head (told.seen old)) (length (told.seen old)) len → DiskRun told old new (Cut len (told.seen old))
+      → DiskRun told old new (λ image. image_now told old image ⊎ OpensAlike head (told.seen old) image)
+  finish_run old new head len at run =
+      weaker told old new (Cut len (told.seen old)) (λ image. image_now told old image ⊎ OpensAlike head (told.seen old) image) run (λ image cut. inr (cut_alike head (told.seen old) len at image cut))

@@ -1,0 +1,33 @@
+use Rattle.std.proofs.Common.{◌≡◌, List, ℕ, [], ◌∷◌, ◌++◌, true, false, sym, ◌∙◌, ap, subst}
+use Rattle.gate_log.specs.Readers.{IsReading, IsReadTo, IsReadOn, IsReadUp}
+use Rattle.gate_log.specs.Reading.{parts_of}
+use Rattle.gate_log.proofs.Turns.{looked_on, turn_seen}
+use Rattle.gate_log.proofs.readers.read_through.Goals as goal
+
+pub loop-preserved : goal.loop-preserved
+loop-preserved g c =
+    let told = g.D.DiskCalls.told in
+    let counts = g.D.DiskCalls.counts in
+    let old = c.args.disk.now in
+    let mid = c.loop.disk in
+    let new = c.next_part.new.disk in
+    let inv = c.loop.invariant in
+    let e = c.in_ok-next_part.ensures in
+    (looked_on told counts old mid new inv.0 e.tells e.cause.answer e.content e.moments,
+        λ tells head parts reading.
+        let up = inv.1 tells head parts reading in
+        let on : IsReading head (told.seen old) (up.0 ++ c.next_part.new.self.part ∷ []) c.next_part.new.self =
+        rw c.if-branch.true at (turn_seen told counts old mid new inv.0 tells e.content c.loop.reader c.next_part.new.self c.in_ok-next_part.field-0 e.reading head up.0 up.1) in
+        (up.0 ++ c.next_part.new.self.part ∷ [], on))
+
+pub returns-clause-reading : goal.returns-clause-reading
+returns-clause-reading g c = λ tells head parts reading.
+    let told = g.D.DiskCalls.told in
+    let counts = g.D.DiskCalls.counts in
+    let old = c.args.disk.now in
+    let inv = c.loop.invariant in
+    let e = c.in_ok-next_part.ensures in
+    let up = inv.1 tells head parts reading in
+    let on : IsReading head (told.seen old) up.0 c.next_part.new.self × IsReadTo up.0 (parts_of head (told.seen old)) =
+    rw c.if-branch.false at (turn_seen told counts old c.loop.disk c.next_part.new.disk inv.0 tells e.content c.loop.reader c.next_part.new.self c.in_ok-next_part.field-0 e.reading head up.0 up.1) in
+    (up.0, on.0)
