@@ -1,5 +1,5 @@
 -- Laws of the reading of a history.
-use Rattle.std.proofs.Common.{◌≡◌, ◌⊎◌, ℕ, ◌+◌, ◌%◌, ◌<◌, All, Bool, true, false, eqb, List, [], ◌∷◌, ◌++◌, length, reverse, take, drop, get_or, Option, Some, None, Result, Ok, Err, refl, sym, ap, subst, ◌∙◌, inl, inr, arith}
+use Rattle.std.proofs.Common.{◌≡◌, ◌⊎◌, ℕ, ◌+◌, ◌%◌, ◌<◌, All, Bool, true, false, eqb, List, [], ◌∷◌, ◌++◌, length, reverse, take, drop, get_or, Option, Some, None, Result, Ok, Err, refl, sym, ap, subst, ◌∙◌, inl, inr, arith, append_assoc}
 use Rattle.std.specs.Prelude.{is_none, ◌==◌, IfOk}
 use Rattle.std.proofs.lemmas.Bool.{eq-eqb, eqb-true, and_from}
 use Rattle.std.proofs.lemmas.Option.{none-some}
@@ -18,7 +18,7 @@ use Rattle.counter_journal.specs.EntryRanges.{IsEntryOf, IsHistory}
 use Rattle.counter_journal.specs.EntryReading.{entry_in}
 use Rattle.counter_journal.specs.JournalLaws.{no_mark, written_entry, written_mark}
 use Rattle.counter_journal.specs.JournalReading.{parts_in, AreWritten, IsFirstMark, IsBad, StopsAt}
-use Rattle.counter_journal.specs.HistoryReading.{IsRead, IsNext, belongs, is_first, marks, is_mark, IsTaken, IsMarkTaken, number_behind, IsPast}
+use Rattle.counter_journal.specs.HistoryReading.{IsRead, IsNext, belongs, is_first, is_mark, IsTaken, IsMarkTaken, IsPast, IsKeptPast}
 use Rattle.counter_journal.proofs.FieldLaws.{IsBytes, both_true}
 use Rattle.counter_journal.specs.EntriesAgain.{entry_again, one_entry}
 use Rattle.counter_journal.proofs.EntryLaws.{entry_takes}
@@ -147,42 +147,51 @@ read_more lane lanes parts old new part past (inr added) book =
     })
     book
 
--- how many parts entries have
-pub parts_long : (version : Version) (entries : List Entry) (parts : List (List ℕ)) → AreWritten version entries parts → length parts ≡ length entries + marks version
-parts_long First entries parts written = omega (arith, ap length written.1, length-map entries (entry_octets First))
-parts_long Second entries parts written =
-    omega (arith, ap length written.spelled, ap length written.are, length-append (parts_in First written.front) (MARK ∷ parts_in Second written.rest),
-    length-append written.front written.rest, length-map written.front (entry_octets First), length-map written.rest (entry_octets Second))
+-- what was read stays a history of the lane
+pub kept_on : (lane lanes : ℕ) (old new : Past) (part : List ℕ) → IsKeptPast lane lanes old → IsTaken lane lanes old part true new → StandsFor new.book new.history.entries → IsKeptPast lane lanes new
+kept_on lane lanes old new part kept (inl marked) book = record { history = subst (IsHistory lane lanes) (sym marked.1) kept.history; book = book }
+kept_on lane lanes old new part kept (inr added) book = record {
+  history = subst (IsHistory lane lanes) (sym added.2)
+      (record {
+        legal = IsLegal-push old.history.entries added.0 kept.history.legal added.1.3;
+        of_lane = All-push (IsEntryOf lane lanes) old.history.entries added.0 kept.history.of_lane added.1.1;
+      });
+  book = book;
+}
+
+pub kept_none : (lane lanes : ℕ) (past : Past) → past.history.entries ≡ [] → StandsFor past.book past.history.entries → IsKeptPast lane lanes past
+kept_none lane lanes past none book = record {
+  history = subst (IsHistory lane lanes) (sym none) (record { legal = tt; of_lane = λ k d below. absurd (omega arith) });
+  book = book;
+}
 
 -- a bad part stops the reading
-pub read_stops : (lane lanes : ℕ) (first rest : List (List ℕ)) (past : Past) (part : List ℕ) (all : List (List ℕ)) → all ≡ first ++ part ∷ rest → IsPast lane lanes first past
-    → IsBad lane lanes past.history.entries past.version part → StopsAt lane lanes all (number_behind past)
-read_stops lane lanes first rest past part all spelled read bad = record {
+pub stops_here : (lane lanes : ℕ) (first : List (List ℕ)) (past : Past) (part : List ℕ) (number : ℕ) → IsPast lane lanes first past → IsBad lane lanes past.history.entries past.version part
+    → number ≡ length first + 1 → StopsAt lane lanes (first ++ part ∷ []) number
+stops_here lane lanes first past part number read bad place = record {
   entries = past.history.entries;
   version = past.version;
   first = first;
   part = part;
-  rest = rest;
-  spelled = spelled;
+  rest = [];
+  spelled = refl;
   written = read.written;
   history = read.history;
   bad = bad;
-  place = omega (arith, parts_long past.version past.history.entries first read.written);
+  place = place;
 }
 
--- the same of parts in a list
-pub read_one : (lane lanes : ℕ) (parts : List (List ℕ)) (count : ℕ) (old new : Past) (part : List ℕ) → count < length parts → part ≡ get_or parts count part
-    → IsPast lane lanes (take count parts) old → IsTaken lane lanes old part true new → StandsFor new.book new.history.entries
-    → IsPast lane lanes (take (count + 1) parts) new
-read_one lane lanes parts count old new part below is past taken book =
-    subst (λ (p : List (List ℕ)). IsPast lane lanes p new)
-    (ap (λ (p : List ℕ). take count parts ++ p ∷ []) is ∙ sym (take_more parts count part below))
-    (read_more lane lanes (take count parts) old new part past taken book)
-
-pub stops_at : (lane lanes : ℕ) (parts : List (List ℕ)) (count : ℕ) (past : Past) (part : List ℕ) → count < length parts → part ≡ get_or parts count part
-    → IsPast lane lanes (take count parts) past → IsBad lane lanes past.history.entries past.version part → StopsAt lane lanes parts (number_behind past)
-stops_at lane lanes parts count past part below is read bad =
-    read_stops lane lanes (take count parts) (drop (count + 1) parts) past part parts
-    (sym (take-append-drop count parts)
-    ∙ ap (λ (l : List (List ℕ)). take count parts ++ l) (drop_more parts count part below ∙ ap (λ (p : List ℕ). p ∷ drop (count + 1) parts) (sym is)))
-    read bad
+-- and it stays the first one
+pub stops_on : (lane lanes : ℕ) (parts : List (List ℕ)) (number : ℕ) (part : List ℕ) → StopsAt lane lanes parts number → StopsAt lane lanes (parts ++ part ∷ []) number
+stops_on lane lanes parts number part stops = record {
+  entries = stops.entries;
+  version = stops.version;
+  first = stops.first;
+  part = stops.part;
+  rest = stops.rest ++ part ∷ [];
+  spelled = ap (λ (p : List (List ℕ)). p ++ part ∷ []) stops.spelled ∙ append_assoc stops.first (stops.part ∷ stops.rest) (part ∷ []);
+  written = stops.written;
+  history = stops.history;
+  bad = stops.bad;
+  place = stops.place;
+}

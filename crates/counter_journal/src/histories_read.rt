@@ -1,18 +1,17 @@
 //! How the history of a lane is read from the parts of its log.
 
-ghost use Rattle.std.specs.Prelude.{◌≡◌, ◌+◌, ◌%◌, ◌==◌, ◌<◌, [], List, is_none, length, reverse, IfOk, OnOk};
+ghost use Rattle.std.specs.Prelude.{◌≡◌, ◌%◌, ◌==◌, ◌<◌, [], List, is_none, reverse, IfOk, OnOk};
 ghost use Rattle.ota_core.specs.Entry.{keyset_of};
 ghost use Rattle.ota_core.specs.History.{broken};
 ghost use Rattle.ota_core.specs.declared.entries.Entry.{Entry};
 ghost use Rattle.keyset_book.specs.Book.{StandsFor};
-ghost use Rattle.gate_log.specs.declared.log_errors.LogErr.TheVariants as log_err;
-ghost use Rattle.counter_journal.specs.HistoryReading.{IsRead, IsNext, belongs, is_mark, number_behind, IsMarkTaken, IsTaken, HistoryAnswer};
+ghost use Rattle.counter_journal.specs.declared.versions.Version.TheVariants.{First};
+ghost use Rattle.counter_journal.specs.HistoryReading.{IsRead, IsNext, belongs, is_mark, IsMarkTaken, IsTaken};
 
 use crate::entries_read::entry_in;
 use crate::versions::Version;
-use gate_log::LogErr;
 use keyset_book::Book;
-use ota_core::{Entry, History, Memory, Octets};
+use ota_core::{Entry, History, Memory};
 use std::alloc::Global;
 
 /// What was read of a journal: its history so far, the book of it, and the version of the part that comes next.
@@ -23,23 +22,17 @@ pub struct Past {
     pub version: Version,
 }
 
-/// The history of the lane whose entries these parts are, or the number of the first part that is bad.
-pub fn history_of(alloc: Global, parts: &[Octets], lane: u16, lanes: u16) -> Result<Past, LogErr>
-    requires { 0 < lanes }
-    ensures { HistoryAnswer lane lanes parts.now result }
+/// Nothing was read.
+pub fn no_past(alloc: Global) -> Past
+    ensures none { result.history.entries ≡ [] }
+    ensures first { result.version ≡ First }
+    ensures stands { StandsFor result.book result.history.entries }
 {
-    let mut past = Past {
+    Past {
         history: History::new(alloc),
         book: Book::new(alloc),
         version: Version::First,
-    };
-    for part in parts {
-        let taken = past.take(alloc, part.as_slice(), lane, lanes)?;
-        if !taken {
-            return Err(past.damaged());
-        }
     }
-    Ok(past)
 }
 
 impl Past {
@@ -67,17 +60,6 @@ impl Past {
                 self.history.add(entry)?;
                 Ok(true)
             }
-        }
-    }
-
-    /// The refusal of the part behind those that were read.
-    fn damaged(&self) -> LogErr
-        ensures { result ≡ log_err.Damaged (number_behind self.now) }
-    {
-        let entries = self.history.entries().len() as u64;
-        match self.version {
-            Version::First => LogErr::Damaged(entries + 1),
-            Version::Second => LogErr::Damaged(entries + 2),
         }
     }
 

@@ -13,17 +13,17 @@ ghost use Rattle.counter_journal.specs.declared.versions.Version.TheVariants.{Fi
 ghost use Rattle.counter_journal.specs.EntryOctets.{MARK};
 ghost use Rattle.counter_journal.specs.EntryRanges.{IsSized, IsEntry, IsOfLane, IsEntryOf, IsHistory};
 ghost use Rattle.counter_journal.specs.Journal.{journal_head};
-ghost use Rattle.counter_journal.specs.HistoryReading.{PartsAnswer, is_damage};
+ghost use Rattle.counter_journal.specs.HistoryReading.{IsKeptPast};
 ghost use Rattle.counter_journal.specs.JournalOpening.{IsBeforeOrOpened, IsOpenedTo, IsCutAtMost, IsGoingOn};
 ghost use Rattle.counter_journal.specs.JournalReading.{parts_for, Holds, OpeningAnswer, IsReady, IsSameJournal, AddAnswer, UnlessWanting, IsBeforeCalls};
 
 use crate::batches::put_entries;
-use crate::heads::head_of;
-use crate::histories_read::{Past, history_of};
+use crate::histories_read::Past;
 use crate::kept_books::{with_entries, with_places};
 use crate::marks::go_on;
+use crate::openings::open_log;
 use disk_model::DiskCalls;
-use gate_log::{Batch, Log, LogErr, open, sound_records};
+use gate_log::{Batch, Log, LogErr};
 use keyset_book::Book;
 use ota_core::{Entry, History, Memory};
 use std::alloc::Global;
@@ -96,20 +96,8 @@ impl Journal {
         ensures cause { LogCause (D.counts disk.old) (D.counts disk.new) result }
         ensures not_full { IfErr result IsNotFull }
     {
-        match open(alloc, disk, head_of(lane, lanes)) {
-            Ok(log) => {
-                let past = read_history(alloc, disk, lane, lanes)?;
-                journal_of(alloc, disk, lane, lanes, log, past)
-            }
-            Err(error) => {
-                if !is_damage(error) {
-                    return Err(error);
-                }
-                // An entry that is wrong ahead of a damaged batch comes first.
-                read_history(alloc, disk, lane, lanes)?;
-                Err(error)
-            }
-        }
+        let opened = open_log(alloc, disk, lane, lanes)?;
+        journal_of(alloc, disk, lane, lanes, opened.log, opened.past)
     }
 
     /// The history that the journal holds. Each reserved script in it has 1 to 4,096 octets, and
@@ -213,36 +201,6 @@ impl Journal {
     }
 }
 
-fn is_damage(error: LogErr) -> bool
-    ensures { result ≡ is_damage error }
-{
-    match error {
-        LogErr::Damaged(_) => true,
-        _ => false,
-    }
-}
-
-/// The history whose entries are the parts of the log, up to its gate or up to a batch that is damaged.
-fn read_history<D: DiskCalls>(
-    alloc: Global,
-    disk: &mut D,
-    lane: u16,
-    lanes: u16,
-) -> Result<Past, LogErr>
-    requires { 0 < lanes }
-    ensures answer { Tells D.told disk.old → PartsAnswer lane lanes (parts_of (journal_head lane lanes) (D.told.seen disk.old)) result }
-    ensures history { IfOk result (λ past. IsHistory lane lanes past.history.entries) }
-    ensures stands { IfOk result (λ past. StandsFor past.book past.history.entries) }
-    ensures content { Tells D.told disk.old → UnlessFault result (D.told.seen disk.new ≡ D.told.seen disk.old) }
-    ensures moments { Tells D.told disk.old → DiskRun D.told disk.old disk.new (image_now D.told disk.old) }
-    ensures tells { D.told.tells disk.new ≡ D.told.tells disk.old }
-    ensures cause { LogCause (D.counts disk.old) (D.counts disk.new) result }
-    ensures not_full { IfErr result IsNotFull }
-{
-    let parts = sound_records(alloc, disk, head_of(lane, lanes))?;
-    history_of(alloc, &parts, lane, lanes)
-}
-
 /// The journal of a log that was opened and read. Where its parts are of the first version it is taken over.
 fn journal_of<D: DiskCalls>(
     alloc: Global,
@@ -253,8 +211,7 @@ fn journal_of<D: DiskCalls>(
     past: Past,
 ) -> Result<Journal, LogErr>
     requires some { 0 < lanes }
-    requires history { IsHistory lane lanes past.history.entries }
-    requires stands { StandsFor past.book past.history.entries }
+    requires kept { IsKeptPast lane lanes past }
     requires settled { Tells D.told disk.old → IsOpenLog D.told disk.old log }
     ensures made { IfOk result (λ journal. (journal ≡ record { lane = lane; lanes = lanes; entries = past.history.entries; length = journal.length; room = 0 })
         × IsGoingOn D.told disk.old disk.new past.version log journal.length) }

@@ -12,6 +12,7 @@ mod journals;
 mod kept_books;
 mod laws;
 mod marks;
+mod openings;
 mod versions;
 
 pub use formats::format;
