@@ -1,5 +1,5 @@
 -- Laws of the reading of a history.
-use Rattle.std.proofs.Common.{◌≡◌, ◌⊎◌, ℕ, ◌+◌, ◌%◌, ◌<◌, All, Bool, true, false, eqb, List, [], ◌∷◌, ◌++◌, length, reverse, take, drop, get_or, Option, Some, None, Result, Ok, Err, refl, sym, ap, subst, ◌∙◌, inl, inr, arith}
+use Rattle.std.proofs.Common.{◌≡◌, ◌⊎◌, ℕ, ◌+◌, ◌%◌, ◌<◌, All, Bool, true, false, eqb, List, [], ◌∷◌, ◌++◌, length, reverse, take, drop, get_or, Option, Some, None, Result, Ok, Err, refl, sym, ap, subst, ◌∙◌, inl, inr, arith, append_assoc}
 use Rattle.std.specs.Prelude.{is_none, ◌==◌, IfOk}
 use Rattle.std.proofs.lemmas.Bool.{eq-eqb, eqb-true, and_from}
 use Rattle.std.proofs.lemmas.Option.{none-some}
@@ -8,6 +8,8 @@ use Rattle.std.proofs.lemmas.List.Elements.{All-push}
 use Rattle.ota_core.specs.Entry.{keyset_of}
 use Rattle.ota_core.specs.History.{broken, IsLegal, IsLegalPast}
 use Rattle.ota_core.specs.declared.entries.Entry.{Entry}
+use Rattle.ota_core.specs.declared.entries.Illegal.{Illegal}
+use Rattle.keyset_book.specs.Book.{StandsFor}
 use Rattle.counter_journal.specs.declared.versions.Version.{Version}
 use Rattle.counter_journal.specs.declared.versions.Version.TheVariants.{First, Second}
 use Rattle.counter_journal.specs.declared.histories_read.Past.{Past}
@@ -16,7 +18,7 @@ use Rattle.counter_journal.specs.EntryRanges.{IsEntryOf, IsHistory}
 use Rattle.counter_journal.specs.EntryReading.{entry_in}
 use Rattle.counter_journal.specs.JournalLaws.{no_mark, written_entry, written_mark}
 use Rattle.counter_journal.specs.JournalReading.{parts_in, AreWritten, IsFirstMark, IsBad, StopsAt}
-use Rattle.counter_journal.specs.HistoryReading.{IsRead, IsNext, belongs, is_first, marks, is_mark, IsTaken, IsMarkTaken, number_behind, IsPast}
+use Rattle.counter_journal.specs.HistoryReading.{IsRead, IsNext, belongs, is_first, is_mark, IsTaken, IsMarkTaken, IsPast, IsKeptPast}
 use Rattle.counter_journal.proofs.FieldLaws.{IsBytes, both_true}
 use Rattle.counter_journal.specs.EntriesAgain.{entry_again, one_entry}
 use Rattle.counter_journal.proofs.EntryLaws.{entry_takes}
@@ -41,6 +43,17 @@ bad_entry lane lanes entries version part found read differs = λ entry is of sp
   where
     both_ways : true ≡ false → ⊥
     both_ways e = cc
+
+none_is : (found : Option Illegal) → is_none found ≡ true → found ≡ None
+none_is None none = refl
+none_is (Some rule) none = absurd cc
+
+-- one that belongs may follow
+pub good_entry : (lane lanes : ℕ) (entries : List Entry) (version : Version) (part : List ℕ) (found : Entry) → IsRead version part (Some found) → belongs lane lanes entries found ≡ true
+    → IsNext lane lanes entries version part (Some found)
+good_entry lane lanes entries version part found read is =
+    let both = both_true (eqb ((keyset_of found).card.0 % lanes) lane) (is_none (broken (reverse entries) found)) is in
+    (read.0, record { fits = read.1; of_lane = eqb-true ((keyset_of found).card.0 % lanes) lane both.0 }, read.2, none_is (broken (reverse entries) found) both.1)
 
 -- a legal history with a legal entry behind it
 pub IsLegal-push : (entries : List Entry) (entry : Entry) → IsLegal entries → broken (reverse entries) entry ≡ None → IsLegal (entries ++ entry ∷ [])
@@ -69,24 +82,24 @@ second_mark lane lanes entries part is = record {
   no_entry = λ entry fits of spelled. absurd (no_mark Second entry (spelled ∙ is));
 }
 
-same_past : (old new : Past) → new.history ≡ old.history → new.version ≡ old.version → new ≡ old
-same_past old new history version = λ i. record { history = history i; version = version i }
+same_past : (old new : Past) → new.history ≡ old.history → new.book ≡ old.book → new.version ≡ old.version → new ≡ old
+same_past old new history book version = λ i. record { history = history i; book = book i; version = version i }
 
 taken_by : (lane lanes : ℕ) (old new : Past) (part : List ℕ) (version : Version) (taken : Bool) → old.version ≡ version → part ≡ MARK → taken ≡ is_first version
-    → new.history ≡ old.history → new.version ≡ Second → IsTaken lane lanes old part taken new
-taken_by lane lanes old new part First true was is said history second =
+    → new.history ≡ old.history → new.book ≡ old.book → new.version ≡ Second → IsTaken lane lanes old part taken new
+taken_by lane lanes old new part First true was is said history book second =
     inl (subst (λ (v : Version). IsFirstMark v part) (sym was) is, ap (λ h. h.entries) history, second)
-taken_by lane lanes old new part First false was is said history second = absurd (not_both (sym said))
-taken_by lane lanes old new part Second true was is said history second = absurd (not_both said)
-taken_by lane lanes old new part Second false was is said history second =
+taken_by lane lanes old new part First false was is said history book second = absurd (not_both (sym said))
+taken_by lane lanes old new part Second true was is said history book second = absurd (not_both said)
+taken_by lane lanes old new part Second false was is said history book second =
     (
       subst (λ (v : Version). IsBad lane lanes old.history.entries v part) (sym was) (second_mark lane lanes old.history.entries part is),
-      same_past old new history (second ∙ sym was),
+      same_past old new history book (second ∙ sym was),
     )
 
 -- the mark is taken where none stands before it
 pub mark_taken : (lane lanes : ℕ) (old new : Past) (part : List ℕ) (taken : Bool) → is_mark part ≡ true → IsMarkTaken old taken new → IsTaken lane lanes old part taken new
-mark_taken lane lanes old new part taken is marked = taken_by lane lanes old new part old.version taken refl (mark_is part is) marked.0 marked.1 marked.2
+mark_taken lane lanes old new part taken is marked = taken_by lane lanes old new part old.version taken refl (mark_is part is) marked.0 marked.1 marked.2 marked.3
 
 -- a part that is no entry that may follow, and not the mark, is bad
 pub part_bad : (lane lanes : ℕ) (entries : List Entry) (version : Version) (part : List ℕ) → is_mark part ≡ false → IsNext lane lanes entries version part None
@@ -96,32 +109,34 @@ part_bad lane lanes entries version part other next = record { no_mark = no_firs
 -- ---- parts that are read one after the other
 
 -- no part is read
-pub nothing_read : (lane lanes : ℕ) (past : Past) → past.history.entries ≡ [] → past.version ≡ First → IsPast lane lanes [] past
-nothing_read lane lanes past none first = record {
+pub nothing_read : (lane lanes : ℕ) (past : Past) → past.history.entries ≡ [] → past.version ≡ First → StandsFor past.book past.history.entries → IsPast lane lanes [] past
+nothing_read lane lanes past none first book = record {
+  book = book;
   written = subst (λ (v : Version). AreWritten v past.history.entries []) (sym first) (subst (All (IsOfVersion First)) (sym none) (λ k d below. absurd (omega arith)), ap (parts_in First) (sym none));
   history = subst (IsHistory lane lanes) (sym none) (record { legal = tt; of_lane = λ k d below. absurd (omega arith) });
 }
 
 past_of : (lane lanes : ℕ) (parts : List (List ℕ)) (past : Past) (entries : List Entry) (version : Version) → past.history.entries ≡ entries → past.version ≡ version
-    → AreWritten version entries parts → IsHistory lane lanes entries → IsPast lane lanes parts past
-past_of lane lanes parts past entries version same goes written history = record {
+    → AreWritten version entries parts → IsHistory lane lanes entries → StandsFor past.book past.history.entries → IsPast lane lanes parts past
+past_of lane lanes parts past entries version same goes written history book = record {
+  book = book;
   written = subst (λ (v : Version). AreWritten v past.history.entries parts) (sym goes) (subst (λ (e : List Entry). AreWritten version e parts) (sym same) written);
   history = subst (IsHistory lane lanes) (sym same) history;
 }
 
 mark_read : (lane lanes : ℕ) (parts : List (List ℕ)) (old new : Past) (part : List ℕ) (version : Version) → old.version ≡ version → IsPast lane lanes parts old → IsFirstMark version part
-    → new.history.entries ≡ old.history.entries → new.version ≡ Second → IsPast lane lanes (parts ++ part ∷ []) new
-mark_read lane lanes parts old new part First was past is same second =
+    → new.history.entries ≡ old.history.entries → new.version ≡ Second → StandsFor new.book new.history.entries → IsPast lane lanes (parts ++ part ∷ []) new
+mark_read lane lanes parts old new part First was past is same second book =
     past_of lane lanes (parts ++ part ∷ []) new old.history.entries Second same second
     (subst (λ (p : List ℕ). AreWritten Second old.history.entries (parts ++ p ∷ [])) (sym is)
-    (written_mark old.history.entries parts (subst (λ (v : Version). AreWritten v old.history.entries parts) was past.written))) past.history
-mark_read lane lanes parts old new part Second was past is same second = absurd is
+    (written_mark old.history.entries parts (subst (λ (v : Version). AreWritten v old.history.entries parts) was past.written))) past.history book
+mark_read lane lanes parts old new part Second was past is same second book = absurd is
 
 -- a part more
 pub read_more : (lane lanes : ℕ) (parts : List (List ℕ)) (old new : Past) (part : List ℕ) → IsPast lane lanes parts old → IsTaken lane lanes old part true new
-    → IsPast lane lanes (parts ++ part ∷ []) new
-read_more lane lanes parts old new part past (inl marked) = mark_read lane lanes parts old new part old.version refl past marked.0 marked.1 marked.2
-read_more lane lanes parts old new part past (inr added) =
+    → StandsFor new.book new.history.entries → IsPast lane lanes (parts ++ part ∷ []) new
+read_more lane lanes parts old new part past (inl marked) book = mark_read lane lanes parts old new part old.version refl past marked.0 marked.1 marked.2 book
+read_more lane lanes parts old new part past (inr added) book =
     let entry = added.0 in
     let next = added.1 in
     past_of lane lanes (parts ++ part ∷ []) new (old.history.entries ++ entry ∷ []) old.version added.2 added.3
@@ -130,42 +145,53 @@ read_more lane lanes parts old new part past (inr added) =
       legal = IsLegal-push old.history.entries entry past.history.legal next.3;
       of_lane = All-push (IsEntryOf lane lanes) old.history.entries entry past.history.of_lane next.1;
     })
+    book
 
--- how many parts entries have
-pub parts_long : (version : Version) (entries : List Entry) (parts : List (List ℕ)) → AreWritten version entries parts → length parts ≡ length entries + marks version
-parts_long First entries parts written = omega (arith, ap length written.1, length-map entries (entry_octets First))
-parts_long Second entries parts written =
-    omega (arith, ap length written.spelled, ap length written.are, length-append (parts_in First written.front) (MARK ∷ parts_in Second written.rest),
-    length-append written.front written.rest, length-map written.front (entry_octets First), length-map written.rest (entry_octets Second))
+-- what was read stays a history of the lane
+pub kept_on : (lane lanes : ℕ) (old new : Past) (part : List ℕ) → IsKeptPast lane lanes old → IsTaken lane lanes old part true new → StandsFor new.book new.history.entries → IsKeptPast lane lanes new
+kept_on lane lanes old new part kept (inl marked) book = record { history = subst (IsHistory lane lanes) (sym marked.1) kept.history; book = book }
+kept_on lane lanes old new part kept (inr added) book = record {
+  history = subst (IsHistory lane lanes) (sym added.2)
+      (record {
+        legal = IsLegal-push old.history.entries added.0 kept.history.legal added.1.3;
+        of_lane = All-push (IsEntryOf lane lanes) old.history.entries added.0 kept.history.of_lane added.1.1;
+      });
+  book = book;
+}
+
+pub kept_none : (lane lanes : ℕ) (past : Past) → past.history.entries ≡ [] → StandsFor past.book past.history.entries → IsKeptPast lane lanes past
+kept_none lane lanes past none book = record {
+  history = subst (IsHistory lane lanes) (sym none) (record { legal = tt; of_lane = λ k d below. absurd (omega arith) });
+  book = book;
+}
 
 -- a bad part stops the reading
-pub read_stops : (lane lanes : ℕ) (first rest : List (List ℕ)) (past : Past) (part : List ℕ) (all : List (List ℕ)) → all ≡ first ++ part ∷ rest → IsPast lane lanes first past
-    → IsBad lane lanes past.history.entries past.version part → StopsAt lane lanes all (number_behind past)
-read_stops lane lanes first rest past part all spelled read bad = record {
+pub stops_here : (lane lanes : ℕ) (first : List (List ℕ)) (past : Past) (part : List ℕ) (number : ℕ) → IsPast lane lanes first past → IsBad lane lanes past.history.entries past.version part
+    → number ≡ length first + 1 → StopsAt lane lanes (first ++ part ∷ []) number
+stops_here lane lanes first past part number read bad place = record {
   entries = past.history.entries;
   version = past.version;
   first = first;
   part = part;
-  rest = rest;
-  spelled = spelled;
+  rest = [];
+  spelled = refl;
   written = read.written;
   history = read.history;
   bad = bad;
-  place = omega (arith, parts_long past.version past.history.entries first read.written);
+  place = place;
 }
 
--- the same of parts in a list
-pub read_one : (lane lanes : ℕ) (parts : List (List ℕ)) (count : ℕ) (old new : Past) (part : List ℕ) → count < length parts → part ≡ get_or parts count part
-    → IsPast lane lanes (take count parts) old → IsTaken lane lanes old part true new → IsPast lane lanes (take (count + 1) parts) new
-read_one lane lanes parts count old new part below is past taken =
-    subst (λ (p : List (List ℕ)). IsPast lane lanes p new)
-    (ap (λ (p : List ℕ). take count parts ++ p ∷ []) is ∙ sym (take_more parts count part below))
-    (read_more lane lanes (take count parts) old new part past taken)
-
-pub stops_at : (lane lanes : ℕ) (parts : List (List ℕ)) (count : ℕ) (past : Past) (part : List ℕ) → count < length parts → part ≡ get_or parts count part
-    → IsPast lane lanes (take count parts) past → IsBad lane lanes past.history.entries past.version part → StopsAt lane lanes parts (number_behind past)
-stops_at lane lanes parts count past part below is read bad =
-    read_stops lane lanes (take count parts) (drop (count + 1) parts) past part parts
-    (sym (take-append-drop count parts)
-    ∙ ap (λ (l : List (List ℕ)). take count parts ++ l) (drop_more parts count part below ∙ ap (λ (p : List ℕ). p ∷ drop (count + 1) parts) (sym is)))
-    read bad
+-- and it stays the first one
+pub stops_on : (lane lanes : ℕ) (parts : List (List ℕ)) (number : ℕ) (part : List ℕ) → StopsAt lane lanes parts number → StopsAt lane lanes (parts ++ part ∷ []) number
+stops_on lane lanes parts number part stops = record {
+  entries = stops.entries;
+  version = stops.version;
+  first = stops.first;
+  part = stops.part;
+  rest = stops.rest ++ part ∷ [];
+  spelled = ap (λ (p : List (List ℕ)). p ++ part ∷ []) stops.spelled ∙ append_assoc stops.first (stops.part ∷ stops.rest) (part ∷ []);
+  written = stops.written;
+  history = stops.history;
+  bad = stops.bad;
+  place = stops.place;
+}

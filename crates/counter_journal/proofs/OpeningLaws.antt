@@ -1,7 +1,8 @@
 -- Laws of an opening.
-use Rattle.std.proofs.Common.{◌≡◌, ◌⊎◌, ℕ, ◌+◌, ◌<◌, ◌≤◌, true, List, [], ◌∷◌, ◌++◌, length, take, Result, Ok, Err, refl, inl, inr, sym, ap, subst, ◌∙◌, arith}
-use Rattle.std.specs.Prelude.{IfOk, IfErr}
-use Rattle.disk_model.specs.Disk.{Meaning, Tells, DiskRun, image_now}
+use Rattle.std.proofs.Common.{◌≡◌, ◌⊎◌, ℕ, ◌+◌, ◌<◌, ◌≤◌, true, List, [], ◌∷◌, ◌++◌, length, take, Option, Some, None, Result, Ok, Err, refl, inl, inr, sym, ap, subst, ◌∙◌, arith}
+use Rattle.std.specs.Prelude.{IfOk, IfErr, OnErr}
+use Rattle.std.proofs.lemmas.List.{length-take}
+use Rattle.disk_model.specs.Disk.{Meaning, Tells, DiskRun, Only, image_now}
 use Rattle.disk_model.specs.Runs.{joined, weaker, left_now}
 use Rattle.gate_log.specs.declared.log_errors.LogErr.{LogErr}
 use Rattle.gate_log.specs.declared.log_errors.LogErr.TheVariants as log_err
@@ -9,50 +10,20 @@ use Rattle.gate_log.specs.Append.{opened_with}
 use Rattle.gate_log.specs.Reading.{Reading, parts_of, OpensTo}
 use Rattle.gate_log.specs.Reading.Reading.{Opened, Damaged}
 use Rattle.gate_log.specs.Answers.{Refuses, UnlessFault, IsNotDamaged, IsNotFull, IsWantOrFault}
+use Rattle.gate_log.specs.Readers.{ReaderState, IsReading, IsOpenedWith, FinishAnswer}
 use Rattle.gate_log.specs.Opening.{IsOpened, IsOpenLog, OpensAlike, LIMIT}
 use Rattle.ota_core.specs.declared.entries.Entry.{Entry}
 use Rattle.counter_journal.specs.declared.versions.Version.{Version}
 use Rattle.counter_journal.specs.declared.versions.Version.TheVariants.{First, Second}
 use Rattle.counter_journal.specs.declared.histories_read.Past.{Past}
+use Rattle.counter_journal.specs.declared.openings.LogRead.{LogRead}
 use Rattle.counter_journal.specs.EntryOctets.{MARK}
 use Rattle.counter_journal.specs.EntryRanges.{IsHistory}
 use Rattle.counter_journal.specs.Journal.{journal_head}
 use Rattle.counter_journal.specs.JournalLaws.{written_mark}
 use Rattle.counter_journal.specs.JournalOpening.{IsBeforeOrOpened, MARK_BATCH, IsLeft, IsOpenedTo, IsCutAtMost, IsGoingOn}
 use Rattle.counter_journal.specs.JournalReading.{AreWritten, Holds, ReadsTo, JournalValue, JournalRefuses, IsOpenedOf, OpeningAnswer, IsReady}
-use Rattle.counter_journal.specs.HistoryReading.{HistoryAnswer, PartsAnswer, IsPast, is_damage}
-
--- a refusal for another cause than damage
-pub parts_refused : (lane lanes : ℕ) (read : Reading) (error : LogErr) → Refuses read error → IsNotDamaged error → PartsAnswer lane lanes read (Err error)
-parts_refused lane lanes read log_err.Memory refuses other = refuses
-parts_refused lane lanes read (log_err.DiskFault fault) refuses other = refuses
-parts_refused lane lanes read log_err.Unformatted refuses other = refuses
-parts_refused lane lanes read log_err.NotALog refuses other = refuses
-parts_refused lane lanes read (log_err.OtherHead rest) refuses other = refuses
-parts_refused lane lanes read (log_err.Damaged number) refuses other = absurd other
-parts_refused lane lanes read (log_err.Full size need) refuses other = absurd refuses
-
--- what is read of the parts is read of the log
-pub parts_answer : (lane lanes : ℕ) (read : Reading) (parts : List (List ℕ)) (result : Result Past LogErr) → ReadsTo parts read → HistoryAnswer lane lanes parts result
-    → PartsAnswer lane lanes read result
-parts_answer lane lanes read parts (Ok past) reads answer = (parts, reads, answer)
-parts_answer lane lanes read parts (Err log_err.Memory) reads answer = tt
-parts_answer lane lanes read parts (Err (log_err.DiskFault fault)) reads answer = absurd answer
-parts_answer lane lanes read parts (Err log_err.Unformatted) reads answer = absurd answer
-parts_answer lane lanes read parts (Err log_err.NotALog) reads answer = absurd answer
-parts_answer lane lanes read parts (Err (log_err.OtherHead rest)) reads answer = absurd answer
-parts_answer lane lanes read parts (Err (log_err.Damaged number)) reads answer = (parts, reads, answer)
-parts_answer lane lanes read parts (Err (log_err.Full size need)) reads answer = absurd answer
-
--- what refuses the parts refuses the journal
-pub journal_refused : (lane lanes : ℕ) (read : Reading) (error : LogErr) → PartsAnswer lane lanes read (Err error) → JournalRefuses lane lanes read error
-journal_refused lane lanes read log_err.Memory answer = answer
-journal_refused lane lanes read (log_err.DiskFault fault) answer = answer
-journal_refused lane lanes read log_err.Unformatted answer = answer
-journal_refused lane lanes read log_err.NotALog answer = answer
-journal_refused lane lanes read (log_err.OtherHead rest) answer = answer
-journal_refused lane lanes read (log_err.Damaged number) answer = inl answer
-journal_refused lane lanes read (log_err.Full size need) answer = answer
+use Rattle.counter_journal.specs.HistoryReading.{IsPast, IsReadSoFar, IsReadThrough, IsReadAs, checked}
 
 parts_opened : (one other : List (List ℕ)) (behind rest : List ℕ) → Opened one behind ≡ Opened other rest → one ≡ other
 parts_opened one other behind rest e = cc
@@ -71,16 +42,6 @@ opened_parts head old new len parts opened (inr read) = absurd (not_damaged open
 pub then_looks : {D B C : Type 0} (told : Meaning D B C) (old mid new : D) (P : List ℕ → Type 0) → DiskRun told old mid P → DiskRun told mid new (image_now told mid) → DiskRun told old new P
 then_looks told old mid new P first second =
     joined told old mid new P first (weaker told mid new (image_now told mid) P second (left_now told old mid P first))
-
--- damage is no fault of the disk
-pub unless_damage : (T : Type 0) (error : LogErr) (P : Type 0) → is_damage error ≡ true → UnlessFault {T = T} (Err error) P → P
-unless_damage T log_err.Memory P damage unless = unless
-unless_damage T (log_err.DiskFault fault) P damage unless = absurd cc
-unless_damage T log_err.Unformatted P damage unless = unless
-unless_damage T log_err.NotALog P damage unless = unless
-unless_damage T (log_err.OtherHead rest) P damage unless = unless
-unless_damage T (log_err.Damaged number) P damage unless = unless
-unless_damage T (log_err.Full size need) P damage unless = unless
 
 -- a disk that told still does
 pub still_tells : {D B C : Type 0} (told : Meaning D B C) (old new : D) → told.tells new ≡ told.tells old → Tells told old → Tells told new
@@ -136,22 +97,21 @@ module _ {D B C : Type 0} (told : Meaning D B C) where
     opens = (opened.opens.0, opened.opens.1, ap (parts_of opened.opens.0) same ∙ opened.opens.2);
   }
 
-  -- the moments of an opening of the log
-  pub log_run : (old mid : D) (lane lanes : ℕ) (said : List ℕ) → said ≡ journal_head lane lanes
-      → DiskRun told old mid (λ image. image_now told old image ⊎ OpensAlike said (told.seen old) image) → DiskRun told old mid (IsBeforeOrOpened told old lane lanes)
-  log_run old mid lane lanes said is run =
-      weaker told old mid (λ image. image_now told old image ⊎ OpensAlike said (told.seen old) image) (IsBeforeOrOpened told old lane lanes) run at
-    where
-      at : (image : List ℕ) → image_now told old image ⊎ OpensAlike said (told.seen old) image → IsBeforeOrOpened told old lane lanes image
-      at image (inl now) = inl now
-      at image (inr alike) = inr (inl (subst (λ (h : List ℕ). OpensAlike h (told.seen old) image) is alike))
-
-  -- and of what is read afterwards
-  pub opening_run : (old mid new : D) (lane lanes : ℕ) (said : List ℕ) → said ≡ journal_head lane lanes
-      → DiskRun told old mid (λ image. image_now told old image ⊎ OpensAlike said (told.seen old) image) → DiskRun told mid new (image_now told mid)
+  -- the moments of a reading and of its end
+  pub reading_run : (old mid new : D) (lane lanes : ℕ) (said : List ℕ) → said ≡ journal_head lane lanes → told.seen mid ≡ told.seen old
+      → DiskRun told old mid (image_now told old) → DiskRun told mid new (λ image. image_now told mid image ⊎ OpensAlike said (told.seen mid) image)
       → DiskRun told old new (IsBeforeOrOpened told old lane lanes)
-  opening_run old mid new lane lanes said is first second =
-      then_looks told old mid new (IsBeforeOrOpened told old lane lanes) (log_run old mid lane lanes said is first) second
+  reading_run old mid new lane lanes said is same first second =
+      joined told old mid new (IsBeforeOrOpened told old lane lanes) (weaker told old mid (image_now told old) (IsBeforeOrOpened told old lane lanes) first (λ image now. inl now))
+      (weaker told mid new (λ image. image_now told mid image ⊎ OpensAlike said (told.seen mid) image) (IsBeforeOrOpened told old lane lanes) second at)
+    where
+      at : (image : List ℕ) → image_now told mid image ⊎ OpensAlike said (told.seen mid) image → IsBeforeOrOpened told old lane lanes image
+      at image (inl now) = inl (left_now told old mid (image_now told old) first image now)
+      at image (inr alike) = inr (inl (subst (λ (h : List ℕ). OpensAlike h (told.seen old) image) is (subst (λ (t : List ℕ). OpensAlike said t image) same alike)))
+
+  -- of a reading that is left off
+  pub looked_run : (old new : D) (lane lanes : ℕ) → DiskRun told old new (image_now told old) → DiskRun told old new (IsBeforeOrOpened told old lane lanes)
+  looked_run old new lane lanes run = weaker told old new (image_now told old) (IsBeforeOrOpened told old lane lanes) run (λ image now. inl now)
 
   -- What is known once the parts of a log that was opened are read: it is still open, and its parts are a history.
   pub record IsReadLog (old mid : D) (lane lanes : ℕ) (len : ℕ) (past : Past) : Type 0 where
@@ -162,20 +122,18 @@ module _ {D B C : Type 0} (told : Meaning D B C) where
     pub cut : told.seen mid ≡ take len (told.seen old)
     pub settled : IsOpenLog told mid len
 
-  pub read_log : (old mid new : D) (lane lanes len : ℕ) (said : List ℕ) (past : Past) → said ≡ journal_head lane lanes → IsOpened said (told.seen old) (told.seen mid) len
-      → IsOpenLog told mid len → DiskRun told mid new (image_now told mid) → told.seen new ≡ told.seen mid → PartsAnswer lane lanes (parts_of (journal_head lane lanes) (told.seen mid)) (Ok past)
-      → IsReadLog old new lane lanes len past
-  read_log old mid new lane lanes len said past is opened settled run same answer =
-      let opened_head = subst (λ (h : List ℕ). IsOpened h (told.seen old) (told.seen mid) len) is opened in
-      let parts = opened_parts (journal_head lane lanes) (told.seen old) (told.seen mid) len answer.0 opened_head answer.1 in
-      record {
-        parts = answer.0;
-        past_is = answer.2;
-        was = parts.1;
-        is = ap (parts_of (journal_head lane lanes)) same ∙ parts.0;
-        cut = same ∙ opened_head.cut;
-        settled = still_open mid new len run same settled;
-      }
+  pub read_log : (old mid : D) (lane lanes len : ℕ) (past : Past) → IsReadAs lane lanes (told.seen old) (told.seen mid) len past → IsOpenLog told mid len → IsReadLog old mid lane lanes len past
+  read_log old mid lane lanes len past read settled =
+      record { parts = read.parts; past_is = read.past_is; was = read.was; is = read.is; cut = read.cut; settled = settled }
+
+  -- a log that was opened leaves just what is seen of it
+  pub settled_log : (mid new : D) (head : List ℕ) (parts : List (List ℕ)) (len : ℕ) → IsOpenedWith head (told.seen mid) (told.seen new) parts len → Only (told.seen new) (image_now told new)
+      → IsOpenLog told new len
+  settled_log mid new head parts len opened only = record {
+    only = only;
+    long = omega (arith, ap length opened.cut, length-take len (told.seen mid), opened.long);
+    opens = (head, parts, opened.is);
+  }
 
   module _ (old mid new : D) (lane lanes len : ℕ) (past : Past) (read : IsReadLog old mid lane lanes len past) where
     -- the moments of the taking over
@@ -267,19 +225,137 @@ module _ {D B C : Type 0} (told : Meaning D B C) where
     IsMadeOf journal = (journal ≡ record { lane = lane; lanes = lanes; entries = past.history.entries; length = journal.length; room = 0 }) × IsGoingOn told mid new past.version len journal.length
 
     pub answered : (result : Result JournalValue LogErr) → IfOk result IsMadeOf → IfErr result IsWantOrFault → OpeningAnswer lane lanes (told.seen old) result
-    answered (Ok journal) made want = opened_of journal made.0
-    answered (Err error) made want = wanting_refuses lane lanes (parts_of (journal_head lane lanes) (told.seen old)) error want
+    answered (Ok journal) is_made want = opened_of journal is_made.0
+    answered (Err error) is_made want = wanting_refuses lane lanes (parts_of (journal_head lane lanes) (told.seen old)) error want
 
     pub readied : (result : Result JournalValue LogErr) → Tells told mid → IfOk result IsMadeOf → IfOk result (IsReady told new)
-    readied (Ok journal) tells made = opened_ready journal made.0 tells made.1
-    readied (Err error) tells made = tt
+    readied (Ok journal) tells is_made = opened_ready journal is_made.0 tells is_made.1
+    readied (Err error) tells is_made = tt
 
     pub lefted : (result : Result JournalValue LogErr) → Tells told mid → IfOk result IsMadeOf → IfOk result (IsOpenedTo (told.seen old) (told.seen new))
-    lefted (Ok journal) tells made = opened_to journal made.0 tells made.1
-    lefted (Err error) tells made = tt
+    lefted (Ok journal) tells is_made = opened_to journal is_made.0 tells is_made.1
+    lefted (Err error) tells is_made = tt
 
-  -- a refusal behind an opening of the log cuts off at most what lies behind its gate
-  pub cut_alone : (old mid new : D) (lane lanes len : ℕ) (said : List ℕ) → said ≡ journal_head lane lanes → IsOpened said (told.seen old) (told.seen mid) len → told.seen new ≡ told.seen mid
-      → IsCutAtMost (journal_head lane lanes) (told.seen old) (told.seen new)
-  cut_alone old mid new lane lanes len said is opened same =
-      inr (len, subst (λ (h : List ℕ). IsOpened h (told.seen old) (told.seen new) len) is (subst (λ (l : List ℕ). IsOpened said (told.seen old) l len) (sym same) opened))
+-- ---- the end of a reading
+
+-- what reads further is refused for no part before it
+reads_both : (one other : List (List ℕ)) (read : Reading) → ReadsTo one read → read ≡ Damaged other → one ≡ other
+reads_both one other read (inl opened) damaged = absurd (not_damaged one other opened.0 (sym opened.1 ∙ damaged))
+reads_both one other read (inr broken) damaged = damaged_same one other (sym broken ∙ damaged)
+  where
+    damaged_same : (one other : List (List ℕ)) → Damaged one ≡ Damaged other → one ≡ other
+    damaged_same one other e = cc
+
+module _ (lane lanes : ℕ) (said old new : List ℕ) (is : said ≡ journal_head lane lanes) (parts : List (List ℕ)) (past : Past) (all : ReadsTo parts (parts_of (journal_head lane lanes) old)) where
+  -- the answer of the end of a reading, where no part was bad or one was
+  abbrev pub IsEnded : Result ℕ LogErr → Type 0
+  IsEnded (Ok len) = IsReadAs lane lanes old new len past
+  IsEnded (Err error) = JournalRefuses lane lanes (parts_of (journal_head lane lanes) old) error
+
+  read_as : (len : ℕ) → IsPast lane lanes parts past → IsOpenedWith said old new parts len → IsReadAs lane lanes old new len past
+  read_as len past_is opened =
+      let at = subst (λ (h : List ℕ). IsOpenedWith h old new parts len) is opened in
+      record { parts = parts; past_is = past_is; was = (at.behind, at.was); is = at.is; cut = at.cut; long = at.long }
+
+  pub ended : (finished : Result ℕ LogErr) (wrong : Option ℕ) → FinishAnswer said old new parts finished → IsReadSoFar lane lanes parts past wrong → IsEnded (checked finished wrong)
+  ended (Ok len) None finish read = read_as len read finish
+  ended (Ok len) (Some number) finish read = inl (parts, all, read)
+  ended (Err log_err.Memory) wrong finish read = absurd finish
+  ended (Err (log_err.DiskFault fault)) None finish read = tt
+  ended (Err (log_err.DiskFault fault)) (Some number) finish read = tt
+  ended (Err log_err.Unformatted) wrong finish read = absurd finish
+  ended (Err log_err.NotALog) wrong finish read = absurd finish
+  ended (Err (log_err.OtherHead rest)) wrong finish read = absurd finish
+  ended (Err (log_err.Damaged number)) None finish read =
+      inr (record {
+        entries = past.history.entries;
+        version = past.version;
+        parts = parts;
+        damaged = subst (λ (h : List ℕ). parts_of h old ≡ Damaged parts) is finish.0;
+        written = read.written;
+        history = read.history;
+        place = finish.1;
+      })
+  ended (Err (log_err.Damaged number)) (Some first) finish read = inl (parts, all, read)
+  ended (Err (log_err.Full size need)) wrong finish read = absurd finish
+
+  -- what it leaves where it refuses
+  pub ended_cut : (finished : Result ℕ LogErr) (wrong : Option ℕ) → FinishAnswer said old new parts finished → OnErr finished (UnlessFault finished (new ≡ old))
+      → OnErr (checked finished wrong) (UnlessFault (checked finished wrong) (IsCutAtMost (journal_head lane lanes) old new))
+  ended_cut (Ok len) None finish same = tt
+  ended_cut (Ok len) (Some number) finish same =
+      let at = subst (λ (h : List ℕ). IsOpenedWith h old new parts len) is finish in
+      inr (len, record { parts = parts; behind = at.behind; was = at.was; is = at.is; cut = at.cut; long = at.long })
+  ended_cut (Err log_err.Memory) wrong finish same = absurd finish
+  ended_cut (Err (log_err.DiskFault fault)) None finish same = tt
+  ended_cut (Err (log_err.DiskFault fault)) (Some number) finish same = tt
+  ended_cut (Err log_err.Unformatted) wrong finish same = absurd finish
+  ended_cut (Err log_err.NotALog) wrong finish same = absurd finish
+  ended_cut (Err (log_err.OtherHead rest)) wrong finish same = absurd finish
+  ended_cut (Err (log_err.Damaged number)) None finish same = inl same
+  ended_cut (Err (log_err.Damaged number)) (Some first) finish same = inl same
+  ended_cut (Err (log_err.Full size need)) wrong finish same = absurd finish
+
+-- an end that is Ok was one of the log
+pub checked_ok : (finished : Result ℕ LogErr) (wrong : Option ℕ) (len : ℕ) → checked finished wrong ≡ Ok len → finished ≡ Ok len
+checked_ok (Ok size) None len e = e
+checked_ok (Ok size) (Some number) len e = absurd cc
+checked_ok (Err error) None len e = absurd cc
+checked_ok (Err error) (Some number) len e = absurd cc
+
+-- ---- the whole reading
+
+-- what is known where all parts were read and the reading was ended
+pub record IsFinished (mid old new : List ℕ) (lane lanes : ℕ) (said : List ℕ) (reader : ReaderState) (read : LogRead) (finished : Result ℕ LogErr) : Type 0 where
+  pub parts : List (List ℕ)
+  pub reading : IsReading said mid parts reader
+  pub all : ReadsTo parts (parts_of (journal_head lane lanes) old)
+  pub finish : FinishAnswer said old new parts finished
+  pub so_far : IsReadSoFar lane lanes parts read.past read.wrong
+
+pub finished_of : {D B C : Type 0} (told : Meaning D B C) (old begun mid new : D) (lane lanes : ℕ) (said : List ℕ) (first reader : ReaderState) (read : LogRead) (finished : Result ℕ LogErr)
+    → said ≡ journal_head lane lanes → Tells told begun → Tells told mid → told.seen begun ≡ told.seen old → told.seen mid ≡ told.seen begun → IsReading said (told.seen begun) [] first
+    → (Tells told begun → (head : List ℕ) → IsReading head (told.seen begun) [] first → IsReadThrough head (told.seen begun) lane lanes reader read)
+    → (Tells told mid → (head : List ℕ) (parts : List (List ℕ)) → IsReading head (told.seen mid) parts reader → FinishAnswer head (told.seen mid) (told.seen new) parts finished)
+    → IsFinished (told.seen mid) (told.seen old) (told.seen new) lane lanes said reader read finished
+finished_of told old begun mid new lane lanes said first reader read finished is tells tells_mid same still reading reads finishes =
+    let through = reads tells said reading in
+    let there : IsReading said (told.seen mid) through.parts reader = subst (λ (t : List ℕ). IsReading said t through.parts reader) (sym still) through.reading in
+    record {
+      parts = through.parts;
+      reading = there;
+      all = subst (λ (h : List ℕ). ReadsTo through.parts (parts_of h (told.seen old))) is (subst (λ (t : List ℕ). ReadsTo through.parts (parts_of said t)) same through.all);
+      finish = subst (λ (t : List ℕ). FinishAnswer said t (told.seen new) through.parts finished) (still ∙ same) (finishes tells_mid said through.parts there);
+      so_far = through.so_far;
+    }
+
+module _ {D B C : Type 0} (told : Meaning D B C) (mid old new : D) (lane lanes : ℕ) (said : List ℕ) (is : said ≡ journal_head lane lanes) (reader : ReaderState) (read : LogRead)
+    (finished : Result ℕ LogErr) (all : IsFinished (told.seen mid) (told.seen old) (told.seen new) lane lanes said reader read finished) where
+  pub finished_answer : (result : Result ℕ LogErr) → result ≡ checked finished read.wrong → IsEnded lane lanes said (told.seen old) (told.seen new) is all.parts read.past all.all result
+  finished_answer result is_checked =
+      subst (IsEnded lane lanes said (told.seen old) (told.seen new) is all.parts read.past all.all) (sym is_checked)
+      (ended lane lanes said (told.seen old) (told.seen new) is all.parts read.past all.all finished read.wrong all.finish all.so_far)
+
+  abbrev pub IsCutBy : Result ℕ LogErr → Type 0
+  IsCutBy result = OnErr result (UnlessFault result (IsCutAtMost (journal_head lane lanes) (told.seen old) (told.seen new)))
+
+  pub finished_cut : (result : Result ℕ LogErr) → result ≡ checked finished read.wrong → OnErr finished (UnlessFault finished (told.seen new ≡ told.seen mid)) → told.seen mid ≡ told.seen old → IsCutBy result
+  finished_cut result is_checked same still =
+      subst IsCutBy (sym is_checked)
+      (ended_cut lane lanes said (told.seen old) (told.seen new) is all.parts read.past all.all finished read.wrong all.finish
+      (subst (λ (t : List ℕ). OnErr finished (UnlessFault finished (told.seen new ≡ t))) still same))
+
+  pub finished_settled : (len : ℕ) → checked finished read.wrong ≡ Ok len → UnlessFault finished (Only (told.seen new) (image_now told new)) → IsOpenLog told new len
+  finished_settled len is_ok only =
+      let ok : finished ≡ Ok len = checked_ok finished read.wrong len is_ok in
+      settled_log told old new said all.parts len (subst (FinishAnswer said (told.seen old) (told.seen new) all.parts) ok all.finish)
+      (subst (λ (r : Result ℕ LogErr). UnlessFault r (Only (told.seen new) (image_now told new))) ok only)
+
+-- where memory was wanting for the journal of a log, what lay behind the gate was cut off
+pub wanting_cut : {D B C T : Type 0} (told : Meaning D B C) (old mid new : D) (lane lanes len : ℕ) (past : Past) (result : Result T LogErr) → IsReadAs lane lanes (told.seen old) (told.seen mid) len past
+    → IfErr result IsWantOrFault → (result ≡ Err log_err.Memory → new ≡ mid) → OnErr result (UnlessFault result (IsCutAtMost (journal_head lane lanes) (told.seen old) (told.seen new)))
+wanting_cut told old mid new lane lanes len past (Ok value) read want stays = tt
+wanting_cut {T = T} told old mid new lane lanes len past (Err error) read want stays =
+    unless_wanting T error (IsCutAtMost (journal_head lane lanes) (told.seen old) (told.seen new)) want
+    (λ is. inr (len, subst (λ d. IsOpened (journal_head lane lanes) (told.seen old) (told.seen d) len) (sym (stays (ap Err is)))
+    (record { parts = read.parts; behind = read.was.0; was = read.was.1; is = read.is; cut = read.cut; long = read.long })))

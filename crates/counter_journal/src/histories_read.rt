@@ -1,40 +1,38 @@
 //! How the history of a lane is read from the parts of its log.
 
-ghost use Rattle.std.specs.Prelude.{◌≡◌, ◌+◌, ◌%◌, ◌==◌, ◌<◌, [], is_none, length, reverse, IfOk};
+ghost use Rattle.std.specs.Prelude.{◌≡◌, ◌%◌, ◌==◌, ◌<◌, [], List, is_none, reverse, IfOk, OnOk};
 ghost use Rattle.ota_core.specs.Entry.{keyset_of};
 ghost use Rattle.ota_core.specs.History.{broken};
-ghost use Rattle.gate_log.specs.declared.log_errors.LogErr.TheVariants as log_err;
-ghost use Rattle.counter_journal.specs.HistoryReading.{IsRead, IsNext, belongs, is_mark, number_behind, IsMarkTaken, IsTaken, HistoryAnswer};
+ghost use Rattle.ota_core.specs.declared.entries.Entry.{Entry};
+ghost use Rattle.keyset_book.specs.Book.{StandsFor};
+ghost use Rattle.counter_journal.specs.declared.versions.Version.TheVariants.{First};
+ghost use Rattle.counter_journal.specs.HistoryReading.{IsRead, IsNext, belongs, is_mark, IsMarkTaken, IsTaken};
 
 use crate::entries_read::entry_in;
 use crate::versions::Version;
-use gate_log::LogErr;
-use ota_core::{Entry, History, Memory, Octets};
+use keyset_book::Book;
+use ota_core::{Entry, History, Memory};
 use std::alloc::Global;
 
-/// What was read of a journal: its history so far, and the version of the part that comes next.
-#[derive(Debug, Drop)]
+/// What was read of a journal: its history so far, the book of it, and the version of the part that comes next.
+#[derive(Drop)]
 pub struct Past {
     pub history: History,
+    pub book: Book,
     pub version: Version,
 }
 
-/// The history of the lane whose entries these parts are, or the number of the first part that is bad.
-pub fn history_of(alloc: Global, parts: &[Octets], lane: u16, lanes: u16) -> Result<Past, LogErr>
-    requires { 0 < lanes }
-    ensures { HistoryAnswer lane lanes parts.now result }
+/// Nothing was read.
+pub fn no_past(alloc: Global) -> Past
+    ensures none { result.history.entries ≡ [] }
+    ensures first { result.version ≡ First }
+    ensures stands { StandsFor result.book result.history.entries }
 {
-    let mut past = Past {
+    Past {
         history: History::new(alloc),
+        book: Book::new(alloc),
         version: Version::First,
-    };
-    for part in parts {
-        let taken = past.take(alloc, part.as_slice(), lane, lanes)?;
-        if !taken {
-            return Err(past.damaged());
-        }
     }
-    Ok(past)
 }
 
 impl Past {
@@ -47,29 +45,21 @@ impl Past {
         lane: u16,
         lanes: u16,
     ) -> Result<bool, Memory>
-        requires { 0 < lanes }
-        ensures { IfOk result (λ taken. IsTaken lane lanes self.old part.now taken self.new) }
+        requires some { 0 < lanes }
+        requires stands { StandsFor self.old.book self.old.history.entries }
+        ensures taken { IfOk result (λ taken. IsTaken lane lanes self.old part.now taken self.new) }
+        ensures stands { OnOk result (StandsFor self.new.book self.new.history.entries) }
     {
         if is_mark(part) {
             return Ok(self.begin_second());
         }
-        match next_entry(alloc, &self.history, self.version, part, lane, lanes)? {
+        match next_entry(alloc, &self.book, self.version, part, lane, lanes)? {
             None => Ok(false),
             Some(entry) => {
+                self.book.add(&entry)?;
                 self.history.add(entry)?;
                 Ok(true)
             }
-        }
-    }
-
-    /// The refusal of the part behind those that were read.
-    fn damaged(&self) -> LogErr
-        ensures { result ≡ log_err.Damaged (number_behind self.now) }
-    {
-        let entries = self.history.entries().len() as u64;
-        match self.version {
-            Version::First => LogErr::Damaged(entries + 1),
-            Version::Second => LogErr::Damaged(entries + 2),
         }
     }
 
@@ -96,22 +86,22 @@ fn is_mark(part: &[u8]) -> bool
     }
 }
 
-/// The entry of the lane that this part is and that may follow the history.
+/// The entry of the lane that this part is and that may follow, by the book of the entries before it.
 fn next_entry(
     alloc: Global,
-    history: &History,
+    book: &Book,
     version: Version,
     part: &[u8],
     lane: u16,
     lanes: u16,
 ) -> Result<Option<Entry>, Memory>
     requires { 0 < lanes }
-    ensures { IfOk result (IsNext lane lanes history.now.entries version part.now) }
+    ensures { (history : List Entry) → StandsFor book.now history → IfOk result (IsNext lane lanes history version part.now) }
 {
     match read_entry(alloc, version, part)? {
         None => Ok(None),
         Some(entry) => {
-            if !belongs(history, &entry, lane, lanes) {
+            if !belongs(book, &entry, lane, lanes) {
                 return Ok(None);
             }
             Ok(Some(entry))
@@ -126,19 +116,19 @@ fn read_entry(alloc: Global, version: Version, part: &[u8]) -> Result<Option<Ent
     entry_in(alloc, version, part)
 }
 
-/// Whether the entry is of the lane and may follow the history.
-fn belongs(history: &History, entry: &Entry, lane: u16, lanes: u16) -> bool
+/// Whether the entry is of the lane and may follow, by the book of the entries before it.
+fn belongs(book: &Book, entry: &Entry, lane: u16, lanes: u16) -> bool
     requires { 0 < lanes }
-    ensures { result ≡ belongs lane lanes history.now.entries entry.now }
+    ensures { (history : List Entry) → StandsFor book.now history → result ≡ belongs lane lanes history entry.now }
 {
-    lane_of(entry, lanes) == u64::from(lane) && may_follow(history, entry)
+    lane_of(entry, lanes) == u64::from(lane) && may_follow(book, entry)
 }
 
-/// Whether the entry may follow the history.
-fn may_follow(history: &History, entry: &Entry) -> bool
-    ensures { result ≡ is_none (broken (reverse history.now.entries) entry.now) }
+/// Whether the entry may follow, by the book of the entries before it.
+fn may_follow(book: &Book, entry: &Entry) -> bool
+    ensures { (history : List Entry) → StandsFor book.now history → result ≡ is_none (broken (reverse history) entry.now) }
 {
-    history.may_add(entry).is_ok()
+    book.may_add(entry).is_ok()
 }
 
 /// The lane of the entry's card: its number modulo the number of lanes.

@@ -1,6 +1,6 @@
 //! The journal of a lane.
 
-ghost use Rattle.std.specs.Prelude.{◌≡◌, ◌⊎◌, ◌+◌, ◌*◌, ◌^◌, ◌<◌, ◌≤◌, [], ◌∷◌, ◌++◌, ℕ, List, All, None, Err, length, reverse, take, IfOk, IfErr, OnOk, OnErr};
+ghost use Rattle.std.specs.Prelude.{◌≡◌, ◌⊎◌, ◌+◌, ◌*◌, ◌^◌, ◌<◌, ◌≤◌, [], ◌∷◌, ◌++◌, ℕ, List, All, None, Err, length, reverse, take, IfOk, IfErr, IfSome, OnOk, OnErr};
 ghost use Rattle.disk_model.specs.Disk.{Tells, image_now, DiskRun, Only};
 ghost use Rattle.gate_log.specs.declared.log_errors.LogErr.TheVariants as log_err;
 ghost use Rattle.gate_log.specs.Reading.{parts_of, OpensTo};
@@ -8,35 +8,41 @@ ghost use Rattle.gate_log.specs.Reading.Reading.{Opened};
 ghost use Rattle.gate_log.specs.Answers.{LogCause, UnlessFault, IsNotFull, IsWantOrFault};
 ghost use Rattle.gate_log.specs.Opening.{IsOpenLog, AppendTicks, need_of};
 ghost use Rattle.ota_core.specs.History.{IsLegal, broken_batch};
+ghost use Rattle.keyset_book.specs.Book.{StandsFor};
 ghost use Rattle.counter_journal.specs.declared.versions.Version.TheVariants.{First};
 ghost use Rattle.counter_journal.specs.EntryOctets.{MARK};
 ghost use Rattle.counter_journal.specs.EntryRanges.{IsSized, IsEntry, IsOfLane, IsEntryOf, IsHistory};
 ghost use Rattle.counter_journal.specs.Journal.{journal_head};
-ghost use Rattle.counter_journal.specs.HistoryReading.{PartsAnswer, is_damage};
+ghost use Rattle.counter_journal.specs.HistoryReading.{IsKeptPast};
 ghost use Rattle.counter_journal.specs.JournalOpening.{IsBeforeOrOpened, IsOpenedTo, IsCutAtMost, IsGoingOn};
 ghost use Rattle.counter_journal.specs.JournalReading.{parts_for, Holds, OpeningAnswer, IsReady, IsSameJournal, AddAnswer, UnlessWanting, IsBeforeCalls};
 
 use crate::batches::put_entries;
-use crate::heads::head_of;
-use crate::histories_read::{Past, history_of};
+use crate::histories_read::Past;
+use crate::kept_books::{with_entries, with_places};
 use crate::marks::go_on;
+use crate::openings::open_log;
 use disk_model::DiskCalls;
-use gate_log::{Batch, Log, LogErr, open, sound_records};
+use gate_log::{Batch, Log, LogErr};
+use keyset_book::Book;
 use ota_core::{Entry, History, Memory};
 use std::alloc::Global;
+use std::fmt;
 use std::marker::Model;
 
 /// The greatest number of octets in an entry that is added.
 const LONGEST_ENTRY: u32 = 4167;
 
 /// The journal of a lane on a disk: its history, and where its log ends.
-#[derive(Debug, Drop)]
+#[derive(Drop)]
 pub struct Journal {
     alloc: Global,
     lane: u16,
     lanes: u16,
     log: Log,
     history: History,
+    /// None where memory was wanting for it.
+    book: Option<Book>,
     /// Room for the octets of a batch. It is empty between the calls.
     batch: Batch,
     /// For how many entries the batch has room.
@@ -54,7 +60,13 @@ ghost use Rattle.counter_journal.specs.JournalReading.{JournalValue};
 
     ghost view = { λ j. record { lane = j.lane; lanes = j.lanes; entries = j.history.entries; length = j.log; room = j.room } };
 
-    ghost invariant = { λ j. IsJournalKept j.lane j.lanes j.history j.batch j.batch_room j.room };
+    ghost invariant = { λ j. IsJournalKept j.lane j.lanes j.history j.book j.batch j.batch_room j.room };
+}
+
+impl fmt::Debug for Journal {
+    fn fmt<W: fmt::Write>(&self, f: &mut fmt::Formatter<W>) -> Result<(), fmt::Error> {
+        write!(f, "Journal of lane {} of {}", self.lane, self.lanes)
+    }
 }
 
 impl Journal {
@@ -84,20 +96,8 @@ impl Journal {
         ensures cause { LogCause (D.counts disk.old) (D.counts disk.new) result }
         ensures not_full { IfErr result IsNotFull }
     {
-        match open(alloc, disk, head_of(lane, lanes)) {
-            Ok(log) => {
-                let past = read_history(alloc, disk, lane, lanes)?;
-                journal_of(alloc, disk, lane, lanes, log, past)
-            }
-            Err(error) => {
-                if !is_damage(error) {
-                    return Err(error);
-                }
-                // An entry that is wrong ahead of a damaged batch comes first.
-                read_history(alloc, disk, lane, lanes)?;
-                Err(error)
-            }
-        }
+        let opened = open_log(alloc, disk, lane, lanes)?;
+        journal_of(alloc, disk, lane, lanes, opened.log, opened.past)
     }
 
     /// The history that the journal holds. Each reserved script in it has 1 to 4,096 octets, and
@@ -117,6 +117,17 @@ impl Journal {
         ensures legal { IsLegal result.entries }
     {
         self.history
+    }
+
+    /// The book of the history, which answers its questions without a walk. An opening makes it, and each addition keeps
+    /// it; None only where memory was wanting for it in an addition.
+    pub fn book(&self) -> Option<&Book>
+        ensures { IfSome result (λ book. StandsFor book.now self.now.entries) }
+    {
+        match &self.book {
+            None => None,
+            Some(book) => Some(book),
+        }
     }
 
     /// The length of the journal's log in octets.
@@ -178,43 +189,16 @@ impl Journal {
     {
         let count = entries.len() as u32;
         self.make_room(count)?;
+        self.book = with_places(self.book.take(), &entries);
         put_entries(&mut self.batch, &entries);
         let appended = self.log.append(disk, &self.batch);
         self.batch.clear();
         appended?;
+        self.book = with_entries(self.book.take(), &entries);
         add_all(&mut self.history, entries);
         self.room -= count;
         Ok(())
     }
-}
-
-fn is_damage(error: LogErr) -> bool
-    ensures { result ≡ is_damage error }
-{
-    match error {
-        LogErr::Damaged(_) => true,
-        _ => false,
-    }
-}
-
-/// The history whose entries are the parts of the log, up to its gate or up to a batch that is damaged.
-fn read_history<D: DiskCalls>(
-    alloc: Global,
-    disk: &mut D,
-    lane: u16,
-    lanes: u16,
-) -> Result<Past, LogErr>
-    requires { 0 < lanes }
-    ensures answer { Tells D.told disk.old → PartsAnswer lane lanes (parts_of (journal_head lane lanes) (D.told.seen disk.old)) result }
-    ensures history { IfOk result (λ past. IsHistory lane lanes past.history.entries) }
-    ensures content { Tells D.told disk.old → UnlessFault result (D.told.seen disk.new ≡ D.told.seen disk.old) }
-    ensures moments { Tells D.told disk.old → DiskRun D.told disk.old disk.new (image_now D.told disk.old) }
-    ensures tells { D.told.tells disk.new ≡ D.told.tells disk.old }
-    ensures cause { LogCause (D.counts disk.old) (D.counts disk.new) result }
-    ensures not_full { IfErr result IsNotFull }
-{
-    let parts = sound_records(alloc, disk, head_of(lane, lanes))?;
-    history_of(alloc, &parts, lane, lanes)
 }
 
 /// The journal of a log that was opened and read. Where its parts are of the first version it is taken over.
@@ -227,7 +211,7 @@ fn journal_of<D: DiskCalls>(
     past: Past,
 ) -> Result<Journal, LogErr>
     requires some { 0 < lanes }
-    requires history { IsHistory lane lanes past.history.entries }
+    requires kept { IsKeptPast lane lanes past }
     requires settled { Tells D.told disk.old → IsOpenLog D.told disk.old log }
     ensures made { IfOk result (λ journal. (journal ≡ record { lane = lane; lanes = lanes; entries = past.history.entries; length = journal.length; room = 0 })
         × IsGoingOn D.told disk.old disk.new past.version log journal.length) }
@@ -246,6 +230,7 @@ fn journal_of<D: DiskCalls>(
         lanes,
         log,
         history: past.history,
+        book: Some(past.book),
         batch,
         batch_room: 1,
         room: 0,

@@ -9,8 +9,10 @@ mod formats;
 mod heads;
 mod histories_read;
 mod journals;
+mod kept_books;
 mod laws;
 mod marks;
+mod openings;
 mod versions;
 
 pub use formats::format;

@@ -5,6 +5,7 @@ ghost use Rattle.counter_journal.specs.EntryRanges.{IsSized, IsOfLane};
 use crate::{Journal, format};
 use disk_model::{DiskCalls, DiskFault, Image, MemDisk, SimCalls};
 use gate_log::LogErr;
+use keyset_book::{Book, Looked};
 use ota_core::{
     CardId, Counter, Entry, JobId, KeyBytes, KeysetFacts, KeysetId, Memory, Mode, Octets, Tar,
 };
@@ -771,5 +772,89 @@ fn a_stop_at_each_call_of_the_taking_over_leaves_the_entries(rt: HostRuntime) ->
             assert!(rt; is_taken_over(rt.alloc(), call, image)?);
         }
     }
+    Ok(())
+}
+
+/// A journal of version 1 in which the keyset is opened and 100,000 counters of it are reserved, each for a job of its
+/// own with a script of one octet.
+fn large(alloc: Global) -> Result<Vec<u8>, Fail> {
+    let mut octets = journal(alloc, 0, 1, &[OPEN])?;
+    let _ = octets.pop();
+    for number in 1..100_001u32 {
+        octets.extend_from_slice(&[0xA5, 0x00, 0x00, 0x00, 0x23, 0x00, 0x00, 0x00, 0x1F])?;
+        octets.extend_from_slice(&RESERVE[..15])?;
+        octets.extend_from_slice(&number.to_be_bytes())?;
+        octets.extend_from_slice(&[0x00, 0x00, 0x00, 0x07])?;
+        octets.extend_from_slice(&number.to_be_bytes())?;
+        octets.extend_from_slice(&[0xB0, 0x00, 0x10, 0x00])?;
+    }
+    octets.push(0x00)?;
+    Ok(octets)
+}
+
+/// Whether the book has each of these jobs with the counter of its number, and the one behind them as the next.
+fn has_each(book: &Book) -> bool {
+    for number in 1..100_001u32 {
+        let job = JobId {
+            campaign: 7,
+            job: number,
+        };
+        if book.look(job) != Looked::Unsettled(keyset(), Counter(u64::from(number))) {
+            return false;
+        }
+    }
+    book.next(keyset()) == Ok(Counter(0x0001_86A1))
+}
+
+#[test]
+fn large_journal_opens(rt: HostRuntime) -> Result<(), Fail> {
+    let alloc = rt.alloc();
+    let octets = large(alloc)?;
+    assert_eq!(rt; octets.len(), 4_000_075);
+    let mut disk = MemDisk::of(alloc, &octets)?;
+    let opened = Journal::open(alloc, &mut disk, 0, 1);
+    let journal = opened.ok().ok_or("these are the octets of a journal")?;
+    assert_eq!(rt; journal.length(), 4_000_086);
+    let kept = journal.book().ok_or("an opening makes the book")?;
+    assert!(rt; has_each(kept));
+    let made = Book::from_history(alloc, journal.history())?;
+    assert!(rt; has_each(&made));
+    Ok(())
+}
+
+/// Opens the journal of lane 0 of 1, adds an entry that may follow, and asks the book what has become of the job 1.
+fn looked_after<D: DiskCalls>(
+    alloc: Global,
+    disk: &mut D,
+    entry: Entry,
+) -> Result<Option<Looked>, LogErr>
+    requires sized { IsSized entry }
+    requires of_lane { IsOfLane 0 1 entry }
+{
+    let mut journal = Journal::open(alloc, disk, 0, 1)?;
+    if journal.history().may_add(&entry).is_err() {
+        return Err(LogErr::Damaged(0));
+    }
+    let entries = vec![in alloc; entry]?;
+    journal.add(disk, entries)?;
+    let job = JobId {
+        campaign: 7,
+        job: 1,
+    };
+    match journal.book() {
+        None => Ok(None),
+        Some(book) => Ok(Some(book.look(job))),
+    }
+}
+
+#[test]
+fn the_book_goes_with_the_history(rt: HostRuntime) -> Result<(), Fail> {
+    let alloc = rt.alloc();
+    let first = Counter(1);
+    let mut disk = MemDisk::of(alloc, &journal(alloc, 0, 1, &[OPEN])?)?;
+    let unsettled = looked_after(alloc, &mut disk, reserved(alloc, 1)?);
+    assert!(rt; unsettled == Ok(Some(Looked::Unsettled(keyset(), first))));
+    let answered = looked_after(alloc, &mut disk, done(alloc)?);
+    assert!(rt; answered == Ok(Some(Looked::Done(keyset(), first))));
     Ok(())
 }
