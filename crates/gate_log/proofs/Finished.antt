@@ -1,5 +1,4 @@
 -- How a reading ends.
-<<<<<<< HEAD
 use Rattle.std.proofs.Common.{◌≡◌, ◌⊎◌, ℕ, ◌+◌, ◌-◌, ◌≤◌, List, [], length, take, drop, refl, inl, inr, ⊎_elim, sym, ◌∙◌, ap, subst, arith, length-append, length-drop, length-take}
 use Rattle.std.proofs.lemmas.List.{append-nil}
 use Rattle.std.specs.Prelude.{Result, Ok, Err, IfOk}
@@ -14,19 +13,6 @@ use Rattle.gate_log.specs.Answers.{OpensAt, Answers, UnlessFault}
 use Rattle.gate_log.specs.Opening.{OpensAlike, IsOpened, IsOpenLog}
 use Rattle.gate_log.specs.Windows.{rest_of}
 use Rattle.gate_log.specs.Readers.{ReaderState, in_front, IsReading, IsOpenedWith, FinishAnswer}
-=======
-use Rattle.std.proofs.Common.{◌≡◌, ◌⊎◌, ℕ, ◌+◌, ◌-◌, ◌≤◌, List, [], ◌++◌, length, take, drop, refl, inl, inr, sym, ◌∙◌, ap, subst, arith, length-append, length-drop}
-use Rattle.std.proofs.lemmas.List.{append-nil}
-use Rattle.disk_model.specs.Disk.{Meaning, DiskRun, Cut, image_now}
-use Rattle.disk_model.specs.Runs.{weaker}
-use Rattle.gate_log.specs.declared.standings.Standing.TheVariants as standing
-use Rattle.gate_log.specs.Reading.{parts_of}
-use Rattle.gate_log.specs.Reading.Reading.{Opened}
-use Rattle.gate_log.specs.Answers.{OpensAt}
-use Rattle.gate_log.specs.Opening.{OpensAlike}
-use Rattle.gate_log.specs.Windows.{rest_of}
-use Rattle.gate_log.specs.Readers.{ReaderState, in_front, IsReading, IsOpenedWith}
->>>>>>> d0aa26e3e826d98da479a6457d40d3651e1d0422
 use Rattle.gate_log.specs.Readings.{cut_again}
 use Rattle.gate_log.proofs.Opened.{cut_alike}
 use Rattle.gate_log.proofs.ReaderParts.{left_by}
@@ -62,7 +48,6 @@ module _ {D B C : Type 0} (told : Meaning D B C) where
       → DiskRun told old new (λ image. image_now told old image ⊎ OpensAlike head (told.seen old) image)
   finish_run old new head len at run =
       weaker told old new (Cut len (told.seen old)) (λ image. image_now told old image ⊎ OpensAlike head (told.seen old) image) run (λ image cut. inr (cut_alike head (told.seen old) len at image cut))
-<<<<<<< HEAD
 
 -- ---- a log that is opened
 
@@ -95,5 +80,3 @@ module _ {D B C : Type 0} (told : Meaning D B C) where
       (weaker told old mid (image_now told old) P first (λ image now. inl now))
       (weaker told mid new (λ image. image_now told mid image ⊎ OpensAlike head (told.seen mid) image) P second
       (λ image at. ⊎_elim (λ now. inl (left_now told old mid (image_now told old) first image now)) (λ alike. inr (subst (λ (t : List ℕ). OpensAlike head t image) same alike)) at))
-=======
->>>>>>> d0aa26e3e826d98da479a6457d40d3651e1d0422

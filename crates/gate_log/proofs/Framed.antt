@@ -1,26 +1,14 @@
 -- What is read from a gate on: whether parts fill a batch, and what a batch read in pieces is.
-<<<<<<< HEAD
 use Rattle.std.proofs.Common.{◌≡◌, ◌≢◌, ℕ, ◌+◌, ◌<◌, Bool, true, false, Option, Some, None, List, [], ◌∷◌, length, take, drop, get_or, refl, sym, ◌∙◌, ap, subst, arith, length-drop}
-=======
-use Rattle.std.proofs.Common.{◌≡◌, ◌≢◌, ℕ, suc, ◌+◌, ◌-◌, ◌<◌, ◌≤◌, Bool, true, false, Option, Some, None, List, [], ◌∷◌, ◌++◌, length, take, drop, get_or, refl, sym, ◌∙◌, ap, subst, arith, length-append, length-take, length-drop}
->>>>>>> d0aa26e3e826d98da479a6457d40d3651e1d0422
 use Rattle.std.specs.Prelude.{is_some, nat_lt, ◌&&◌, Result, Ok, Err, IfOk}
 use Rattle.std.specs.Option.{option_map}
 use Rattle.std.specs.Int.{w32, from_be_bytes}
 use Rattle.std.proofs.lemmas.Bool.{lt-ltb}
-<<<<<<< HEAD
 use Rattle.std.proofs.lemmas.List.{drop_at, drop-drop, take-take}
 use Rattle.gate_log.specs.Log.{OPEN}
 use Rattle.gate_log.specs.Reading.{size_at, measured, parts_from, batch_of, behind_parts, walk_from}
 use Rattle.gate_log.specs.Reading.Walk.{Ended, Broken}
 use Rattle.gate_log.specs.Measures.{parts_step, parts_none, parts_done, batch_of_is, is_batch_of}
-=======
-use Rattle.std.proofs.lemmas.List.{drop_at, drop-drop, take-take, drop-append-le}
-use Rattle.gate_log.specs.Log.{OPEN}
-use Rattle.gate_log.specs.Reading.{size_at, measured, parts_from, batch_of, behind_parts, walk_from}
-use Rattle.gate_log.specs.Reading.Walk.{Ended, Broken}
-use Rattle.gate_log.specs.Measures.{parts_step, parts_none, parts_done, measured_some, IsBatch, batch_of_is, is_batch_of}
->>>>>>> d0aa26e3e826d98da479a6457d40d3651e1d0422
 use Rattle.gate_log.specs.Walks.{walk_batch, walk_damaged}
 use Rattle.gate_log.specs.Windows.{WindowsState, rest_of, IsTaken}
 use Rattle.gate_log.specs.BatchesRead.{is_framed, IsBody, IsBatchRead, IsStepRead}

@@ -1,11 +1,6 @@
 -- How a reading goes on, part by part.
-<<<<<<< HEAD
 use Rattle.std.proofs.Common.{◌≡◌, ◌⊎◌, ℕ, ◌+◌, ◌-◌, ◌≤◌, Bool, true, false, Option, Some, None, List, [], ◌∷◌, ◌++◌, length, take, drop, inl, inr, refl, sym, ◌∙◌, ap, subst, arith, append_assoc, length-append, length-drop}
 use Rattle.std.specs.Prelude.{is_some, unwrap_or, Ok, Err}
-=======
-use Rattle.std.proofs.Common.{◌≡◌, ◌⊎◌, ℕ, ◌+◌, ◌-◌, ◌<◌, ◌≤◌, Bool, true, false, Option, Some, None, List, [], ◌∷◌, ◌++◌, length, take, drop, inl, inr, refl, sym, ◌∙◌, ap, subst, arith, append_assoc, length-append, length-take, length-drop}
-use Rattle.std.specs.Prelude.{is_some, unwrap_or, Result, Ok, Err}
->>>>>>> d0aa26e3e826d98da479a6457d40d3651e1d0422
 use Rattle.std.specs.Option.{option_map}
 use Rattle.std.proofs.lemmas.List.{drop-drop, append-nil, take-take, drop-append-le}
 use Rattle.std.proofs.Math.Seq.{drop-nil}
@@ -20,11 +15,7 @@ use Rattle.gate_log.specs.declared.log_errors.LogErr.{LogErr}
 use Rattle.gate_log.specs.declared.log_errors.LogErr.TheVariants as log_err
 use Rattle.gate_log.specs.Answers.{Refuses, heading_answer}
 use Rattle.gate_log.specs.Measures.{measured_some, parts_step, parts_done}
-<<<<<<< HEAD
 use Rattle.gate_log.specs.Walks.{behind_none}
-=======
-use Rattle.gate_log.specs.Walks.{behind_none, behind_more}
->>>>>>> d0aa26e3e826d98da479a6457d40d3651e1d0422
 use Rattle.gate_log.specs.Windows.{WindowsState, rest_of, IsWithin}
 use Rattle.gate_log.specs.BatchesRead.{IsStepRead, IsHeld}
 use Rattle.gate_log.specs.Readers.{ReaderState, has_ended, octets_left, in_front, parts_in, left_at, left, IsReading, IsReadTo, IsReadOn, IsCounted}

@@ -1,9 +1,5 @@
 -- The loops that read a log to its end.
-<<<<<<< HEAD
 use Rattle.std.proofs.Common.{◌≡◌, ℕ, List, Bool, refl, sym, ◌∙◌, subst}
-=======
-use Rattle.std.proofs.Common.{◌≡◌, ℕ, List, Bool, refl, sym, ◌∙◌, ap, subst}
->>>>>>> d0aa26e3e826d98da479a6457d40d3651e1d0422
 use Rattle.disk_model.specs.Counts.{Counts}
 use Rattle.disk_model.specs.Disk.{Meaning, Tells, image_now, DiskRun}
 use Rattle.disk_model.specs.Runs.{at_once}

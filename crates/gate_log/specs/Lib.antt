@@ -14,10 +14,6 @@ pub mod BatchesRead
 pub mod Readers
 pub mod ReaderKept
 pub mod ReaderSteps
-<<<<<<< HEAD
-=======
-pub mod Steps
->>>>>>> d0aa26e3e826d98da479a6457d40d3651e1d0422
 pub mod Opening
 pub mod Formatting
 pub mod Batches

@@ -1,9 +1,5 @@
 -- How a reading is kept.
-<<<<<<< HEAD
 use Rattle.std.specs.Prelude.{◌≡◌, ◌⊎◌, ℕ, ◌+◌, ◌-◌, ◌≤◌, true, is_some, List, length, drop}
-=======
-use Rattle.std.specs.Prelude.{◌≡◌, ◌⊎◌, ℕ, ◌+◌, ◌-◌, ◌<◌, ◌≤◌, true, is_some, List, length, drop}
->>>>>>> d0aa26e3e826d98da479a6457d40d3651e1d0422
 use Rattle.gate_log.specs.declared.standings.Standing.{Standing}
 use Rattle.gate_log.specs.declared.standings.Standing.TheVariants.{Going, Closed}
 use Rattle.gate_log.specs.Reading.{parts_from}

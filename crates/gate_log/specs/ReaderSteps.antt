@@ -1,9 +1,5 @@
 -- The steps of a reading.
-<<<<<<< HEAD
 use Rattle.std.specs.Prelude.{◌≡◌, ℕ, ◌+◌, ◌-◌, ◌≤◌, Bool, true, false, is_some, Some, List, [], length, Result, Ok, Err}
-=======
-use Rattle.std.specs.Prelude.{◌≡◌, ◌⊎◌, ℕ, ◌+◌, ◌-◌, ◌<◌, ◌≤◌, Bool, true, false, is_some, Some, List, [], ◌∷◌, ◌++◌, length, Result, Ok, Err}
->>>>>>> d0aa26e3e826d98da479a6457d40d3651e1d0422
 use Rattle.gate_log.specs.declared.log_errors.LogErr.{LogErr}
 use Rattle.gate_log.specs.declared.log_errors.LogErr.TheVariants as log_err
 use Rattle.gate_log.specs.declared.standings.Standing.{Standing}

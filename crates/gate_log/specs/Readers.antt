@@ -1,20 +1,11 @@
 -- A log as it is read part by part.
-<<<<<<< HEAD
 use Rattle.std.specs.Prelude.{◌≡◌, ◌⊎◌, ℕ, ◌+◌, ◌-◌, ◌<◌, ◌≤◌, Bool, true, false, unwrap_or, List, [], ◌∷◌, ◌++◌, length, take, Result, Ok, Err}
-=======
-use Rattle.std.specs.Prelude.{◌≡◌, ◌⊎◌, ℕ, ◌+◌, ◌-◌, ◌<◌, ◌≤◌, Bool, true, false, is_some, unwrap_or, List, [], ◌∷◌, ◌++◌, length, take, drop, Result, Ok, Err}
-use Rattle.disk_model.specs.declared.faults.DiskFault.TheVariants as fault
->>>>>>> d0aa26e3e826d98da479a6457d40d3651e1d0422
 use Rattle.gate_log.specs.declared.log_errors.LogErr.{LogErr}
 use Rattle.gate_log.specs.declared.log_errors.LogErr.TheVariants as log_err
 use Rattle.gate_log.specs.declared.standings.Standing.{Standing}
 use Rattle.gate_log.specs.declared.standings.Standing.TheVariants as standing
 use Rattle.gate_log.specs.Reading.{Reading, parts_from, parts_of, behind_parts, walk_from, reading_of_walk}
-<<<<<<< HEAD
 use Rattle.gate_log.specs.Reading.Reading.{Damaged, Opened}
-=======
-use Rattle.gate_log.specs.Reading.Reading.{Unformatted, NotALog, OtherHead, Damaged, Opened}
->>>>>>> d0aa26e3e826d98da479a6457d40d3651e1d0422
 use Rattle.gate_log.specs.Windows.{WindowsState, rest_of, windows_in}
 
 -- what contracts see of a reading: how many parts were given, the last of them, the octets of its batch that are still

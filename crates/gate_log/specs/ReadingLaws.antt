@@ -1,23 +1,12 @@
 -- How calls that only look at a disk go on, one after another.
-<<<<<<< HEAD
 use Rattle.std.specs.Prelude.{◌≡◌, ℕ, ◌+◌, ◌≤◌, List, length, Result, Ok, Err, OnOk, IsTrue, refl}
-=======
-use Rattle.std.specs.Prelude.{◌≡◌, ℕ, ◌+◌, ◌≤◌, List, length, Result, Ok, Err, IfErr, OnOk, IsTrue, refl}
->>>>>>> d0aa26e3e826d98da479a6457d40d3651e1d0422
 use Rattle.std.proofs.Common.{sym, ◌∙◌, ap, subst, arith}
 use Rattle.disk_model.specs.Counts.{Counts}
 use Rattle.disk_model.specs.Disk.{Meaning, Tells, Only, image_now, DiskRun}
 use Rattle.disk_model.specs.Runs.{joined, weaker, left_now, at_once}
-<<<<<<< HEAD
 use Rattle.gate_log.specs.declared.log_errors.LogErr.{LogErr}
 use Rattle.gate_log.specs.declared.log_errors.LogErr.TheVariants as log_err
 use Rattle.gate_log.specs.Answers.{LogCause, UnlessFault}
-=======
-use Rattle.disk_model.specs.declared.faults.DiskFault.TheVariants as fault
-use Rattle.gate_log.specs.declared.log_errors.LogErr.{LogErr}
-use Rattle.gate_log.specs.declared.log_errors.LogErr.TheVariants as log_err
-use Rattle.gate_log.specs.Answers.{LogCause, ErrCause, UnlessFault, IsWantOrFault}
->>>>>>> d0aa26e3e826d98da479a6457d40d3651e1d0422
 use Rattle.gate_log.specs.Windows.{WindowsState, windows_in, ReadTicks, Looks}
 
 module _ {D B C : Type 0} (told : Meaning D B C) where
@@ -40,11 +29,7 @@ module _ {D B C : Type 0} (told : Meaning D B C) where
     pub looks_none : {T : Type 0} (disk : D) (was now : WindowsState) (value : T) → now.read ≡ was.read → now.long ≡ was.long → Looks told counts disk disk was now (Ok value)
     looks_none disk was now value read long = record {
       tells = refl;
-<<<<<<< HEAD
       cause = record { faults = omega arith; wants = omega arith; beside = refl; answer = refl };
-=======
-      cause = record { faults = omega arith; wants = omega arith; answer = refl };
->>>>>>> d0aa26e3e826d98da479a6457d40d3651e1d0422
       err = tt;
       content = λ tells. refl;
       moments = λ tells. at_once told disk (image_now told disk) (λ image is. is);
@@ -57,11 +42,7 @@ module _ {D B C : Type 0} (told : Meaning D B C) where
     pub looks_want : {T : Type 0} (disk : D) (was now : WindowsState) → was.read ≤ was.long → now.long ≤ was.long → Looks told counts {T = T} disk disk was now (Err log_err.Memory)
     looks_want disk was now within shorter = record {
       tells = refl;
-<<<<<<< HEAD
       cause = record { faults = omega arith; wants = omega arith; beside = refl; answer = refl };
-=======
-      cause = record { faults = omega arith; wants = omega arith; answer = refl };
->>>>>>> d0aa26e3e826d98da479a6457d40d3651e1d0422
       err = tt;
       content = λ tells. refl;
       moments = λ tells. at_once told disk (image_now told disk) (λ image is. is);
@@ -108,11 +89,7 @@ module _ {D B C : Type 0} (told : Meaning D B C) where
     pub looks_as : {T U : Type 0} (old new : D) (was now : WindowsState) (value : T) (other : U) → Looks told counts old new was now (Ok value) → Looks told counts old new was now (Ok other)
     looks_as old new was now value other looks = record {
       tells = looks.tells;
-<<<<<<< HEAD
       cause = record { faults = looks.cause.faults; wants = looks.cause.wants; beside = looks.cause.beside; answer = looks.cause.answer };
-=======
-      cause = record { faults = looks.cause.faults; wants = looks.cause.wants; answer = looks.cause.answer };
->>>>>>> d0aa26e3e826d98da479a6457d40d3651e1d0422
       err = tt;
       content = looks.content;
       moments = looks.moments;

@@ -16,10 +16,6 @@ mod logs;
 mod measures;
 mod readers;
 mod standings;
-<<<<<<< HEAD
-=======
-mod walks;
->>>>>>> d0aa26e3e826d98da479a6457d40d3651e1d0422
 mod windows;
 
 pub use appends::append;

@@ -1,8 +1,4 @@
 use Rattle.std.proofs.Common.{◌≡◌, ◌<◌, length, sym, ◌∙◌, arith}
-<<<<<<< HEAD
-=======
-use Rattle.gate_log.proofs.Loops.{parts_smaller}
->>>>>>> d0aa26e3e826d98da479a6457d40d3651e1d0422
 use Rattle.gate_log.proofs.Framed.{are_turn, are_stop, are_end}
 use Rattle.gate_log.proofs.batches_read.are_parts.Goals as goal
 

@@ -1,8 +1,4 @@
-<<<<<<< HEAD
 use Rattle.std.proofs.Common.{◌≡◌, ◌<◌, ◌-◌, List, ℕ, take, drop, length, sym, ◌∙◌, ap, subst}
-=======
-use Rattle.std.proofs.Common.{◌≡◌, ◌<◌, ◌-◌, List, ℕ, false, true, take, drop, length, sym, ◌∙◌, ap, subst, arith}
->>>>>>> d0aa26e3e826d98da479a6457d40d3651e1d0422
 use Rattle.std.specs.Prelude.{IfOk}
 use Rattle.std.proofs.lemmas.List.{take_rest}
 use Rattle.gate_log.specs.Reading.{size_at}

@@ -1,12 +1,6 @@
-<<<<<<< HEAD
 use Rattle.std.proofs.Common.{◌≡◌, ◌<◌, ◌-◌, false, true, take, drop, length, sym, ◌∙◌, ap, arith, length-append, length-drop}
 use Rattle.std.proofs.lemmas.List.{take_rest}
 use Rattle.gate_log.specs.Windows.{rest_of, IsTaken}
-=======
-use Rattle.std.proofs.Common.{◌≡◌, ◌<◌, ◌-◌, List, ℕ, false, true, take, drop, length, sym, ◌∙◌, ap, arith, length-append, length-drop}
-use Rattle.std.proofs.lemmas.List.{take_rest}
-use Rattle.gate_log.specs.Windows.{rest_of, IsTakenOrShort, IsTaken}
->>>>>>> d0aa26e3e826d98da479a6457d40d3651e1d0422
 use Rattle.gate_log.specs.BatchesRead.{is_framed}
 use Rattle.gate_log.proofs.Framed.{behind_room}
 use Rattle.gate_log.proofs.batches_read.read_body.Goals as goal

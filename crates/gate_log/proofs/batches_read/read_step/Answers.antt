@@ -1,8 +1,4 @@
-<<<<<<< HEAD
 use Rattle.std.proofs.Common.{◌≡◌, ◌≢◌, ◌<◌, List, [], ℕ, length, get_or, sym, ◌∙◌, ap, subst, arith}
-=======
-use Rattle.std.proofs.Common.{◌≡◌, ◌≢◌, ◌<◌, List, [], ℕ, false, true, length, get_or, sym, ◌∙◌, ap, subst, arith}
->>>>>>> d0aa26e3e826d98da479a6457d40d3651e1d0422
 use Rattle.std.specs.Prelude.{IfOk}
 use Rattle.gate_log.specs.Log.{OPEN}
 use Rattle.gate_log.specs.ReadingLaws.{tells_on}

@@ -1,11 +1,5 @@
-<<<<<<< HEAD
 use Rattle.std.proofs.Common.{◌≡◌, List, ℕ, [], ◌∷◌, ◌++◌, sym, ◌∙◌, ap, subst}
 use Rattle.gate_log.specs.Readers.{IsReading}
-=======
-use Rattle.std.proofs.Common.{◌≡◌, List, ℕ, [], ◌∷◌, ◌++◌, true, false, sym, ◌∙◌, ap, subst}
-use Rattle.gate_log.specs.Readers.{IsReading, IsReadTo, IsReadOn}
-use Rattle.gate_log.specs.Reading.{parts_of}
->>>>>>> d0aa26e3e826d98da479a6457d40d3651e1d0422
 use Rattle.gate_log.proofs.Turns.{looked_on, turn_seen}
 use Rattle.gate_log.proofs.readers.read_parts.Goals as goal
 

@@ -1,8 +1,3 @@
-<<<<<<< HEAD
-=======
-use Rattle.std.proofs.Common.{◌≡◌, ◌≤◌, ◌+◌, length, ◌∙◌, ap, sym}
-use Rattle.gate_log.specs.declared.standings.Standing.TheVariants as standing
->>>>>>> d0aa26e3e826d98da479a6457d40d3651e1d0422
 use Rattle.gate_log.proofs.Finished.{ends_at, opened_with, finish_run}
 use Rattle.gate_log.proofs.readers.LogReader.finish.Goals as goal
 

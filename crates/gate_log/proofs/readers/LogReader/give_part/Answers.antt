@@ -1,8 +1,4 @@
-<<<<<<< HEAD
 use Rattle.std.proofs.Common.{◌≡◌, ◌<◌, ◌-◌, ◌+◌, ◌^◌, List, ℕ, Some, None, take, drop, length, refl, sym, ◌∙◌, ap, arith}
-=======
-use Rattle.std.proofs.Common.{◌≡◌, ◌<◌, ◌-◌, ◌+◌, ◌^◌, List, ℕ, Some, None, take, drop, length, refl, sym, ◌∙◌, ap, subst, arith}
->>>>>>> d0aa26e3e826d98da479a6457d40d3651e1d0422
 use Rattle.std.specs.Vec.{vec_len}
 use Rattle.std.proofs.lemmas.List.{take_rest}
 use Rattle.std.specs.Prelude.{is_some}

@@ -1,17 +1,6 @@
-<<<<<<< HEAD
 use Rattle.std.proofs.Common.{◌≡◌, List, ℕ, take, length, refl, sym, ◌∙◌, ap, subst, arith}
 use Rattle.std.proofs.lemmas.Result.{err_from_is_err_and}
 use Rattle.gate_log.specs.Windows.{rest_of}
-=======
-use Rattle.std.proofs.Common.{◌≡◌, ◌≤◌, ◌+◌, List, ℕ, [], take, drop, length, refl, sym, ◌∙◌, ap, subst, arith, length-drop}
-use Rattle.std.specs.Prelude.{is_some, Err, Ok}
-use Rattle.std.proofs.lemmas.Result.{err_from_is_err_and}
-use Rattle.gate_log.specs.declared.standings.Standing.TheVariants as standing
-use Rattle.gate_log.specs.Reading.{heading_of, parts_from}
-use Rattle.gate_log.specs.Measures.{parts_done}
-use Rattle.gate_log.specs.Answers.{heading_answer}
-use Rattle.gate_log.specs.Windows.{WindowsState, rest_of}
->>>>>>> d0aa26e3e826d98da479a6457d40d3651e1d0422
 use Rattle.gate_log.specs.ReadingLaws.{tells_on, look_on}
 use Rattle.gate_log.proofs.ReaderParts.{window_refuses, began, reader_began, batch_none}
 use Rattle.gate_log.proofs.readers.LogReader.look.Goals as goal

@@ -1,8 +1,4 @@
-<<<<<<< HEAD
 use Rattle.std.proofs.Common.{◌≡◌, ◌-◌, List, ℕ, [], drop, length, sym, ◌∙◌, ap}
-=======
-use Rattle.std.proofs.Common.{◌≡◌, ◌-◌, List, ℕ, [], drop, length, sym, ◌∙◌, ap, arith}
->>>>>>> d0aa26e3e826d98da479a6457d40d3651e1d0422
 use Rattle.std.specs.Vec.{vec_len}
 use Rattle.gate_log.specs.declared.standings.Standing.{Standing}
 use Rattle.gate_log.specs.declared.standings.Standing.TheVariants.{Going}

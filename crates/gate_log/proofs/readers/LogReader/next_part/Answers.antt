@@ -1,10 +1,5 @@
-<<<<<<< HEAD
 use Rattle.std.proofs.Common.{List, ℕ, sym, subst}
 use Rattle.gate_log.specs.Readers.{IsReadOn}
-=======
-use Rattle.std.proofs.Common.{◌≡◌, List, ℕ, sym, ap, subst, ◌∙◌}
-use Rattle.gate_log.specs.Readers.{ReaderState, IsReadOn}
->>>>>>> d0aa26e3e826d98da479a6457d40d3651e1d0422
 use Rattle.gate_log.proofs.ReaderParts.{read_on, counted_on}
 use Rattle.gate_log.proofs.readers.LogReader.next_part.Goals as goal
 

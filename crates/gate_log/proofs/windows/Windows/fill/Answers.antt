@@ -1,8 +1,4 @@
-<<<<<<< HEAD
 use Rattle.std.proofs.Common.{◌≡◌, ◌≤◌, ◌-◌, List, ℕ, ◌++◌, ◌+◌, take, drop, length, ◌∙◌, ap, arith, length-drop}
-=======
-use Rattle.std.proofs.Common.{◌≡◌, ◌≤◌, ◌-◌, List, ℕ, ◌++◌, ◌+◌, take, drop, length, sym, ◌∙◌, ap, arith, length-drop}
->>>>>>> d0aa26e3e826d98da479a6457d40d3651e1d0422
 use Rattle.gate_log.proofs.Windowed.{filled, front_of_window, window_is}
 use Rattle.std.specs.Prelude.{min}
 use Rattle.gate_log.specs.Windows.{WindowsState}
