@@ -1,6 +1,5 @@
 -- What is built opens to what it is built from.
-use Rattle.std.proofs.Common.{◌≡◌, ℕ, ◌+◌, ◌-◌, ◌%◌, ◌^◌, ◌<◌, ◌≤◌, Bool, true, false, ◌&&◌, cond, leb, Result, Ok, Err, List, [], ◌∷◌, ◌++◌, length, take, drop, replicate, get_or, refl, sym, ap, ◌∙◌, arith, lit<, length-append}
-use Rattle.std.specs.Prelude.{slice_index}
+use Rattle.std.proofs.Common.{◌≡◌, ℕ, ◌+◌, ◌-◌, ◌%◌, ◌^◌, ◌<◌, ◌≤◌, Bool, true, leb, Result, Ok, Err, List, [], ◌∷◌, ◌++◌, length, take, drop, replicate, get_or, refl, sym, ap, ◌∙◌, arith, lit<, length-append}
 use Rattle.std.specs.Str.{bytes_eq}
 use Rattle.std.proofs.lemmas.List.{drop_at, length-replicate, take_at}
 use Rattle.std.proofs.lemmas.Bool.{and_from, eq-eqb, le-leb}
@@ -10,7 +9,7 @@ use Rattle.secured_packet.proofs.FieldLemmas.{blocks, bytes_eq-same, number_of_f
 use Rattle.response_packet.specs.declared.answers.Answer.{Answer}
 use Rattle.response_packet.specs.declared.answers.AnswerErr.{AnswerErr}
 use Rattle.response_packet.specs.declared.answers.AnswerErr.TheVariants.{Unsecured}
-use Rattle.response_packet.specs.declared.fronts.Front.TheVariants.{Plain, Secured}
+use Rattle.response_packet.specs.declared.fronts.Front.TheVariants.{Secured}
 use Rattle.response_packet.specs.Response.{checked_octets, head_octets, packet_octets, padding_of, plain_octets, response_octets, status_octets, user_data_header}
 use Rattle.response_packet.specs.Opened.{checked_of, front_in, has_blocks, has_length, is_authentic, opened_by, opened_checked, opened_plain, opens, plain_of}
 

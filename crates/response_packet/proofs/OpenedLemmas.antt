@@ -1,11 +1,11 @@
 -- Where the data of an opened packet stand.
-use Rattle.std.proofs.Common.{◌≡◌, ℕ, ◌+◌, ◌≤◌, Result, Ok, Err, List, length, take, drop, sym, ap, ◌∙◌, arith, length-drop}
+use Rattle.std.proofs.Common.{◌≡◌, ℕ, ◌≤◌, Result, Ok, Err, List, length, take, drop, sym, ap, ◌∙◌, arith, length-drop}
 use Rattle.std.proofs.lemmas.List.{drop-drop}
 use Rattle.response_packet.specs.declared.answers.Answer.{Answer}
 use Rattle.response_packet.specs.declared.answers.AnswerIn.{AnswerIn}
 use Rattle.response_packet.specs.declared.answers.AnswerErr.{AnswerErr}
 use Rattle.response_packet.specs.declared.answers.AnswerErr.TheVariants.{CcWrong, Form, Memory, Padding, Unsecured}
-use Rattle.response_packet.specs.Opened.{Answers, AnswersBehind, AnswersIn}
+use Rattle.response_packet.specs.Opened.{AnswersBehind, AnswersIn}
 
 -- what stands behind 8 octets stands there
 pub in_place : (opened : Result Answer AnswerErr) (result : Result AnswerIn AnswerErr) (octets checked : List ℕ) → 8 ≤ length octets → drop 8 octets ≡ checked

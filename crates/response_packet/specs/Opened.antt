@@ -1,5 +1,5 @@
 -- What a response packet says, or the first refusal that applies. ETSI TS 102 225, 5.2.
-use Rattle.std.specs.Prelude.{◌≡◌, ℕ, ◌+◌, ◌-◌, ◌%◌, ◌≤◌, ◌==◌, ◌&&◌, ◌||◌, nat_le, nat_lt, Bool, not, if◌then◌else◌, Result, Ok, Err, List, ◌++◌, length, take, drop, slice_index}
+use Rattle.std.specs.Prelude.{◌≡◌, ℕ, ◌+◌, ◌-◌, ◌%◌, ◌≤◌, ◌==◌, ◌&&◌, ◌||◌, nat_le, Bool, not, if◌then◌else◌, Result, Ok, Err, List, ◌++◌, length, take, drop, slice_index}
 use Rattle.std.specs.Str.{bytes_eq}
 use Rattle.aes_modes.specs.KeyPair.{KeyPair}
 use Rattle.response_packet.specs.declared.answers.Answer.{Answer}

@@ -1,6 +1,6 @@
 -- The checksum's way between its place and the front, and padding.
-use Rattle.std.proofs.Common.{◌≡◌, ℕ, ◌+◌, ◌≤◌, List, ◌++◌, length, take, drop, sym, ap, ◌∙◌, arith}
-use Rattle.std.proofs.lemmas.List.{drop-append-le, drop-take, drop_at, length-append, length-drop, length-take, take-append-le, take-take, take_at, take_all}
+use Rattle.std.proofs.Common.{◌≡◌, ℕ, ◌+◌, ◌≤◌, List, ◌++◌, length, take, drop, ap, ◌∙◌, arith}
+use Rattle.std.proofs.lemmas.List.{drop-append-le, drop-take, drop_at, length-append, length-drop, length-take, take-append-le, take-take, take_at}
 
 module _ (packet : List ℕ) (front : ℕ) (fits : front + 8 ≤ length packet) where
   code_len : length (take 8 (drop front packet)) ≡ 8

@@ -1,6 +1,6 @@
 -- What commands and responses have in common. ETSI TS 102 225, 5.1 and 5.2. Ciphering is AES in CBC mode, the
 -- cryptographic checksum the first 8 octets of a CMAC with AES.
-use Rattle.std.specs.Prelude.{ℕ, ◌+◌, ◌-◌, ◌%◌, Bool, if◌then◌else◌, List, [], ◌∷◌, ◌++◌, take, drop, replicate}
+use Rattle.std.specs.Prelude.{ℕ, ◌+◌, ◌-◌, ◌%◌, Bool, if◌then◌else◌, List, ◌++◌, take, drop, replicate}
 use Rattle.std.specs.Str.{bytes_eq}
 use Rattle.std.specs.Int.{bytes_high_first, from_be_bytes, w16, w64}
 use Rattle.aes_modes.specs.Modes.{cbc_of, cbc_plain_of, cmac_of}

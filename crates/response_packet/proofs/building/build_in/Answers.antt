@@ -1,4 +1,4 @@
-use Rattle.std.proofs.Common.{◌≡◌, ℕ, ◌+◌, length, arith, ◌∙◌}
+use Rattle.std.proofs.Common.{◌∙◌}
 use Rattle.response_packet.proofs.AnsweredLemmas.{IsAnswered, is_answered}
 use Rattle.response_packet.proofs.building.build_in.Goals as goal
 

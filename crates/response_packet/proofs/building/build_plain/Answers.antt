@@ -1,6 +1,5 @@
-use Rattle.std.proofs.Common.{◌≡◌, ℕ, List, [], ◌∷◌, ◌++◌, length, get_or, refl, sym, ap, ◌∙◌, arith, rules}
+use Rattle.std.proofs.Common.{◌≡◌, ℕ, List, [], ◌∷◌, ◌++◌, length, get_or, sym, ap, ◌∙◌, rules}
 use Rattle.secured_packet.specs.Secured.{five, two}
-use Rattle.response_packet.specs.Response.{plain_octets}
 use Rattle.response_packet.specs.Opened.{opens}
 use Rattle.response_packet.proofs.AnsweredLemmas.{plain-opens, three_octets}
 use Rattle.response_packet.proofs.building.build_plain.Goals as goal

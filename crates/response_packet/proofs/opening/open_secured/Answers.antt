@@ -1,4 +1,4 @@
-use Rattle.std.proofs.Common.{◌≡◌, ℕ, ◌≤◌, true, Result, List, length, drop, refl, sym, ap, ◌∙◌, subst, arith, rules}
+use Rattle.std.proofs.Common.{◌≡◌, ℕ, true, Result, List, drop, refl, sym, ◌∙◌, subst, arith, rules}
 use Rattle.std.proofs.lemmas.List.{take_rest}
 use Rattle.response_packet.specs.declared.answers.Answer.{Answer}
 use Rattle.response_packet.specs.declared.answers.AnswerErr.{AnswerErr}

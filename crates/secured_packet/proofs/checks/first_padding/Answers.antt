@@ -1,4 +1,4 @@
-use Rattle.std.proofs.Common.{◌≡◌, ℕ, List, ◌++◌, length, drop, ap, sym, ◌∙◌, rules}
+use Rattle.std.proofs.Common.{◌≡◌, ℕ, List, length, drop, ap, sym, ◌∙◌, rules}
 use Rattle.std.specs.Prelude.{slice_index}
 use Rattle.aes_modes.specs.Modes.{cbc_plain_of, plain_block}
 use Rattle.secured_packet.proofs.CheckLemmas.{padding-first, parted}

@@ -1,8 +1,8 @@
-use Rattle.std.proofs.Common.{◌≡◌, ℕ, ◌+◌, ◌-◌, Bool, List, [], ◌++◌, length, take, drop, refl, subst, ap, sym, ◌∙◌, arith, rules}
+use Rattle.std.proofs.Common.{◌≡◌, ℕ, ◌+◌, ◌-◌, List, ◌++◌, length, take, drop, subst, ap, sym, ◌∙◌, arith, rules}
 use Rattle.std.specs.Str.{bytes_eq}
 use Rattle.std.proofs.lemmas.List.{take_rest}
 use Rattle.aes_modes.specs.Modes.{cbc_plain_of, plain_block}
-use Rattle.aes_modes.specs.Streams.{MacState, state_after}
+use Rattle.aes_modes.specs.Streams.{state_after}
 use Rattle.secured_packet.specs.Secured.{checksum_of, has_checksum}
 use Rattle.secured_packet.proofs.CheckLemmas.{checksum-first, parted}
 use Rattle.secured_packet.proofs.checks.is_authentic_ciphered.Goals as goal

@@ -1,6 +1,6 @@
-use Rattle.std.proofs.Common.{◌≡◌, ℕ, ◌+◌, ◌*◌, ◌/◌, List, [], ◌++◌, length, drop, subst, ap, sym, ◌∙◌, arith, rules}
-use Rattle.aes_modes.specs.Modes.{cbc_plain_of, plain_block, plain_blocks}
-use Rattle.aes_modes.specs.Streams.{MacState, state_after}
+use Rattle.std.proofs.Common.{◌≡◌, ℕ, ◌*◌, ◌/◌, List, ◌++◌, length, drop, subst, ap, sym, ◌∙◌, arith, rules}
+use Rattle.aes_modes.specs.Modes.{plain_block, plain_blocks}
+use Rattle.aes_modes.specs.Streams.{state_after}
 use Rattle.secured_packet.proofs.CheckLemmas.{all_blocks, append-none, append-thrice, later-more, more_long, none_later, one_long}
 use Rattle.secured_packet.proofs.checks.take_later_blocks.Goals as goal
 

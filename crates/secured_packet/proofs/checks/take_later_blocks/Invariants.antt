@@ -1,4 +1,4 @@
-use Rattle.std.proofs.Common.{◌≡◌, ◌≤◌, ◌++◌, ◌*◌, ℕ, List, length, drop}
+use Rattle.std.proofs.Common.{◌≡◌, ◌++◌, ◌*◌, ℕ, List, length, drop}
 use Rattle.aes_modes.specs.Modes.{plain_blocks}
 use Rattle.aes_modes.specs.Streams.{state_after}
 use Rattle.secured_packet.proofs.checks.take_later_blocks.Given as goal

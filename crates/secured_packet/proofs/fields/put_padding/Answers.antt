@@ -1,4 +1,4 @@
-use Rattle.std.proofs.Common.{◌≡◌, ℕ, ◌++◌, ◌∙◌, ap, replicate, take, arith}
+use Rattle.std.proofs.Common.{◌≡◌, ◌++◌, ◌∙◌, ap, replicate, arith}
 use Rattle.std.proofs.lemmas.List.{take-replicate}
 use Rattle.secured_packet.proofs.fields.put_padding.Goals as goal
 

@@ -1,4 +1,4 @@
-use Rattle.std.proofs.Common.{◌≡◌, ℕ, ◌<◌, ◌^◌, List, arith, rules}
+use Rattle.std.proofs.Common.{rules}
 use Rattle.aes_modes.specs.Modes.{AreOctets}
 use Rattle.aes_modes.proofs.Chains.{cbc_plain_of-cbc_of}
 use Rattle.secured_packet.proofs.protection.encrypt.Goals as goal

@@ -1,6 +1,6 @@
-use Rattle.std.proofs.Common.{◌≡◌, List, ℕ, [], ◌∷◌, take, ap, sym, ◌∙◌}
+use Rattle.std.proofs.Common.{◌≡◌, List, ℕ, ap, ◌∙◌}
 use Rattle.gf_aes.specs.Cipher.{aes_encrypts, xor_lists}
-use Rattle.aes_modes.specs.Modes.{cmac_of, last_block}
+use Rattle.aes_modes.specs.Modes.{last_block}
 use Rattle.aes_modes.specs.Streams.{MacState, state_after}
 use Rattle.aes_modes.proofs.StreamLemmas.{code-after}
 use Rattle.aes_modes.proofs.mac_stream.MacStream.code.Goals as goal

@@ -1,6 +1,4 @@
-use Rattle.std.proofs.Common.{◌≡◌, List, ℕ, [], ap, sym, ◌∙◌}
 use Rattle.aes_modes.specs.Modes.{chained}
-use Rattle.aes_modes.specs.Streams.{MacState}
 use Rattle.aes_modes.proofs.StreamLemmas.{same_state}
 use Rattle.aes_modes.proofs.mac_stream.MacStream.new.Goals as goal
 
