@@ -56,8 +56,8 @@ opened_used keyset (Close by moment other ∷ past) opened = opened_used keyset 
 pub last-is : (keyset : Keyset) (past : List Entry) → IsLegalPast past → option_map (λ known. known.last) (known_by keyset past) ≡ first_some (counter_in keyset) past
 last-is keyset past legal =
     by_facts (first_some (facts_in keyset) past) (first_some (counter_in keyset) past) (list_any (is_close_of keyset) past)
-        (λ none. unopened_unused keyset past legal (opened-facts keyset past ∙ ap is_some none))
-        (λ some. opened_used keyset past (opened-facts keyset past ∙ some))
+    (λ none. unopened_unused keyset past legal (opened-facts keyset past ∙ ap is_some none))
+    (λ some. opened_used keyset past (opened-facts keyset past ∙ some))
   where
     by_facts : (facts : Option KeysetFacts) (last : Option ℕ) (closed : Bool) → (facts ≡ None → last ≡ None) → (is_some facts ≡ true → is_some last ≡ true)
         → option_map (λ known. known.last) (known_from facts last closed) ≡ last
@@ -146,8 +146,8 @@ looked-is job past book says = by_last (last_reservation job past) refl
 pub settlement_by-is : (place : Reservation) (past : List Entry) → IsLegalPast past → settled_with (standing_by place past) ≡ settled_in (find (is_settlement_of place) past)
 settlement_by-is place past legal =
     by_cases (list_any (is_reserve_of place) past)
-        (λ reserved. rw reserved (by_settlement (find (is_settlement_of place) past)))
-        (λ free. rw (free, unfound (is_settlement_of place) past (unreserved_unsettled place past legal free)) refl)
+    (λ reserved. rw reserved (by_settlement (find (is_settlement_of place) past)))
+    (λ free. rw (free, unfound (is_settlement_of place) past (unreserved_unsettled place past legal free)) refl)
   where
     by_settlement : (found : Option Entry) → settled_with (Some (standing_of found)) ≡ settled_in found
     by_settlement None = refl

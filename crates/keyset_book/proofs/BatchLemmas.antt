@@ -96,12 +96,12 @@ pub put-more : (history entries : List Entry) (n : ℕ) (entry : Entry) (old new
     → IsPut history entries n old → has_room_for old entry ≡ true → Enters old entry new → new.moment ≡ moment_of entry → IsPut history entries (n + 1) new
 put-more history entries n entry old new within is put room enters late =
     let rest : broken_batch (reverse (history ++ take n entries)) (entry ∷ drop (suc n) entries) ≡ None =
-        ap (broken_batch (reverse (history ++ take n entries))) (ap (λ e. e ∷ drop (suc n) entries) is ∙ sym (drop-cons entries n entry within)) ∙ put.rest in
+    ap (broken_batch (reverse (history ++ take n entries))) (ap (λ e. e ∷ drop (suc n) entries) is ∙ sym (drop-cons entries n entry within)) ∙ put.rest in
     let parts : (broken (reverse (history ++ take n entries)) entry ≡ None) × (broken_batch (entry ∷ reverse (history ++ take n entries)) (drop (suc n) entries) ≡ None) =
-        both_hold (broken (reverse (history ++ take n entries)) entry) (broken_batch (entry ∷ reverse (history ++ take n entries)) (drop (suc n) entries)) rest in
+    both_hold (broken (reverse (history ++ take n entries)) entry) (broken_batch (entry ∷ reverse (history ++ take n entries)) (drop (suc n) entries)) rest in
     let longer : history ++ take (n + 1) entries ≡ (history ++ take n entries) ++ entry ∷ [] =
-        ap (λ k. history ++ take k entries) (add-one n) ∙ ap (λ es. history ++ es) (take-suc entries n entry within ∙ ap (λ e. take n entries ++ e ∷ []) (sym is))
-        ∙ sym (append_assoc history (take n entries) (entry ∷ [])) in
+    ap (λ k. history ++ take k entries) (add-one n) ∙ ap (λ es. history ++ es) (take-suc entries n entry within ∙ ap (λ e. take n entries ++ e ∷ []) (sym is))
+    ∙ sym (append_assoc history (take n entries) (entry ∷ [])) in
     record {
       stands = rw longer (stands-entered (history ++ take n entries) entry old new put.stands parts.0 room enters late);
       rest = rw (longer, reverse-append (history ++ take n entries) (entry ∷ []), add-one n) (parts.1);
@@ -129,8 +129,8 @@ pub room-at : (book : Book) (entries : List Entry) (n : ℕ) (entry : Entry) →
     → HasRoom book entries → has_room_for book entry ≡ true
 room-at book entries n entry within is room =
     by_cases (has_room_for book (get_or entries n entry))
-        (λ there. ap (has_room_for book) is ∙ there)
-        (λ none. absurd (apart room (list_all_at (has_room_for book) entries n entry within none)))
+    (λ there. ap (has_room_for book) is ∙ there)
+    (λ none. absurd (apart room (list_all_at (has_room_for book) entries n entry within none)))
 
 -- one more entry that has room
 pub room-more : (old new : Book) (entries : List Entry) (n : ℕ) (entry : Entry) → n < length entries → entry ≡ get_or entries n entry → KeepsPlaces old new

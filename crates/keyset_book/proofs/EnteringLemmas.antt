@@ -81,7 +81,7 @@ module _ (past : List Entry) (old new : Book) (legal : IsLegalPast past) (says :
     keysets = λ other. opens.keysets room other
         ∙ ap (λ known. if is_same_keyset keyset other then Some (record { facts = facts; last = facts.base; closed = false }) else known) (says.keysets other)
         ∙ known-open facts (is_same_keyset keyset other) (first_some (facts_in other) past) (first_some (counter_in other) past) (list_any (is_close_of other) past)
-            (λ same. unopened_unclosed other past legal (rw (is_same_keyset-true keyset other same) at (opens_first by moment keyset facts past (legal, may))));
+        (λ same. unopened_unclosed other past legal (rw (is_same_keyset-true keyset other same) at (opens_first by moment keyset facts past (legal, may))));
     jobs = λ job. rw (opens.jobs) (says.jobs job);
     counters = λ counter. rw (opens.counters) (says.counters counter);
     moment = late;
@@ -93,81 +93,81 @@ module _ (past : List Entry) (old new : Book) (legal : IsLegalPast past) (says :
       → Reserves old (record { keyset = keyset; counter = counter }) job new → new.moment ≡ moment
       → IsBookOf (Reserve by moment keyset counter job tar name body ∷ past) new
   enters_reservation by moment keyset counter job tar name body may job_room counter_room reserves late =
-    let opened = in_use-opened keyset past (is_in_use past (Reserve by moment keyset counter job tar name body) may refl) in
-    let facts = opened_with keyset opened in
-    let known : known_in old.keysets keyset ≡ known_from (Some facts.0) (first_some (counter_in keyset) past) (list_any (is_close_of keyset) past) =
-        says.keysets keyset ∙ ap (λ found. known_from found (first_some (counter_in keyset) past) (list_any (is_close_of keyset) past)) facts.1 in
-    let next = (reserves_next past by moment keyset counter job tar name body may).0 in
-    let free = unreserved_unsettled (record { keyset = keyset; counter = counter }) past legal (next_unreserved (record { keyset = keyset; counter = counter }) past legal next) in
-    record {
-      keysets = λ other. reserves.keysets (record { facts = facts.0; last = unwrap_or (first_some (counter_in keyset) past) 0; closed = list_any (is_close_of keyset) past }) known other
-          ∙ ap (λ known. if is_same_keyset keyset other then Some (record { facts = facts.0; last = counter; closed = list_any (is_close_of keyset) past }) else known) (says.keysets other)
-          ∙ known-reserved facts.0 counter (list_any (is_close_of keyset) past) (is_same_keyset keyset other) (first_some (facts_in other) past) (first_some (counter_in other) past) (list_any (is_close_of other) past)
-              (λ same. let is = same_found past keyset other facts.0 facts.1 same in (is.0, is.1));
-      jobs = λ other. reserves.jobs job_room other ∙ by_cases (is_same_job job other)
-          (λ same. rw same refl)
-          (λ apart. rw apart (says.jobs other));
-      counters = λ other. reserves.counters counter_room other ∙ by_cases (is_same_counter (record { keyset = keyset; counter = counter }) other)
-          (λ same. rw (same, unfound (is_settlement_of other) past (rw (same_place keyset counter other same) at free)) refl)
-          (λ apart. rw apart (says.counters other));
-      moment = late;
-    }
+      let opened = in_use-opened keyset past (is_in_use past (Reserve by moment keyset counter job tar name body) may refl) in
+      let facts = opened_with keyset opened in
+      let known : known_in old.keysets keyset ≡ known_from (Some facts.0) (first_some (counter_in keyset) past) (list_any (is_close_of keyset) past) =
+      says.keysets keyset ∙ ap (λ found. known_from found (first_some (counter_in keyset) past) (list_any (is_close_of keyset) past)) facts.1 in
+      let next = (reserves_next past by moment keyset counter job tar name body may).0 in
+      let free = unreserved_unsettled (record { keyset = keyset; counter = counter }) past legal (next_unreserved (record { keyset = keyset; counter = counter }) past legal next) in
+      record {
+        keysets = λ other. reserves.keysets (record { facts = facts.0; last = unwrap_or (first_some (counter_in keyset) past) 0; closed = list_any (is_close_of keyset) past }) known other
+            ∙ ap (λ known. if is_same_keyset keyset other then Some (record { facts = facts.0; last = counter; closed = list_any (is_close_of keyset) past }) else known) (says.keysets other)
+            ∙ known-reserved facts.0 counter (list_any (is_close_of keyset) past) (is_same_keyset keyset other) (first_some (facts_in other) past) (first_some (counter_in other) past) (list_any (is_close_of other) past)
+            (λ same. let is = same_found past keyset other facts.0 facts.1 same in (is.0, is.1));
+        jobs = λ other. reserves.jobs job_room other ∙ by_cases (is_same_job job other)
+            (λ same. rw same refl)
+            (λ apart. rw apart (says.jobs other));
+        counters = λ other. reserves.counters counter_room other ∙ by_cases (is_same_counter (record { keyset = keyset; counter = counter }) other)
+            (λ same. rw (same, unfound (is_settlement_of other) past (rw (same_place keyset counter other same) at free)) refl)
+            (λ apart. rw apart (says.counters other));
+        moment = late;
+      }
 
   -- a reserved counter has a place
   pub reserved_placed : (counter : Reservation) → list_any (is_reserve_of counter) past ≡ true → has_counter_place old.counters counter ≡ true
   reserved_placed counter reserved =
-    placed (get counter_cmp old.counters.places counter) (standing_of (find (is_settlement_of counter) past)) (says.counters counter ∙ rw reserved refl)
+      placed (get counter_cmp old.counters.places counter) (standing_of (find (is_settlement_of counter) past)) (says.counters counter ∙ rw reserved refl)
 
   pub enters_done : (by moment : ℕ) (keyset : Keyset) (counter : ℕ) (answer : List ℕ) → broken past (Done by moment keyset counter answer) ≡ None
       → Settles old (record { keyset = keyset; counter = counter }) standing.Done new → new.moment ≡ moment → IsBookOf (Done by moment keyset counter answer ∷ past) new
   enters_done by moment keyset counter answer may settles late =
-    let rule = done_settles by moment keyset counter answer past (legal, may) in
-    let reserved = unless-holds (list_any (is_reserve_of (record { keyset = keyset; counter = counter })) past) Illegal.NotReserved
-        (both_hold (unless (list_any (is_reserve_of (record { keyset = keyset; counter = counter })) past) Illegal.NotReserved)
-            (unless (not (list_any (is_settlement_of (record { keyset = keyset; counter = counter })) past)) Illegal.AlreadySettled) rule).0 in
-    record {
-      keysets = λ other. rw (settles.keysets) (says.keysets other);
-      jobs = λ other. rw (settles.jobs) (says.jobs other);
-      counters = λ other. settles.counters (reserved_placed (record { keyset = keyset; counter = counter }) reserved) other
-          ∙ by_cases (is_same_counter (record { keyset = keyset; counter = counter }) other)
-          (λ same. rw (same, settles_reserved keyset counter other past rule same) refl)
-          (λ apart. rw apart (says.counters other));
-      moment = late;
-    }
+      let rule = done_settles by moment keyset counter answer past (legal, may) in
+      let reserved = unless-holds (list_any (is_reserve_of (record { keyset = keyset; counter = counter })) past) Illegal.NotReserved
+      (both_hold (unless (list_any (is_reserve_of (record { keyset = keyset; counter = counter })) past) Illegal.NotReserved)
+      (unless (not (list_any (is_settlement_of (record { keyset = keyset; counter = counter })) past)) Illegal.AlreadySettled) rule).0 in
+      record {
+        keysets = λ other. rw (settles.keysets) (says.keysets other);
+        jobs = λ other. rw (settles.jobs) (says.jobs other);
+        counters = λ other. settles.counters (reserved_placed (record { keyset = keyset; counter = counter }) reserved) other
+            ∙ by_cases (is_same_counter (record { keyset = keyset; counter = counter }) other)
+            (λ same. rw (same, settles_reserved keyset counter other past rule same) refl)
+            (λ apart. rw apart (says.counters other));
+        moment = late;
+      }
 
   pub enters_refused : (by moment : ℕ) (keyset : Keyset) (counter status : ℕ) → broken past (Refused by moment keyset counter status) ≡ None
       → Settles old (record { keyset = keyset; counter = counter }) (standing.Refused status) new → new.moment ≡ moment → IsBookOf (Refused by moment keyset counter status ∷ past) new
   enters_refused by moment keyset counter status may settles late =
-    let rule = refused_settles by moment keyset counter status past (legal, may) in
-    let reserved = unless-holds (list_any (is_reserve_of (record { keyset = keyset; counter = counter })) past) Illegal.NotReserved
-        (both_hold (unless (list_any (is_reserve_of (record { keyset = keyset; counter = counter })) past) Illegal.NotReserved)
-            (unless (not (list_any (is_settlement_of (record { keyset = keyset; counter = counter })) past)) Illegal.AlreadySettled) rule).0 in
-    record {
-      keysets = λ other. rw (settles.keysets) (says.keysets other);
-      jobs = λ other. rw (settles.jobs) (says.jobs other);
-      counters = λ other. settles.counters (reserved_placed (record { keyset = keyset; counter = counter }) reserved) other
-          ∙ by_cases (is_same_counter (record { keyset = keyset; counter = counter }) other)
-          (λ same. rw (same, settles_reserved keyset counter other past rule same) refl)
-          (λ apart. rw apart (says.counters other));
-      moment = late;
-    }
+      let rule = refused_settles by moment keyset counter status past (legal, may) in
+      let reserved = unless-holds (list_any (is_reserve_of (record { keyset = keyset; counter = counter })) past) Illegal.NotReserved
+      (both_hold (unless (list_any (is_reserve_of (record { keyset = keyset; counter = counter })) past) Illegal.NotReserved)
+      (unless (not (list_any (is_settlement_of (record { keyset = keyset; counter = counter })) past)) Illegal.AlreadySettled) rule).0 in
+      record {
+        keysets = λ other. rw (settles.keysets) (says.keysets other);
+        jobs = λ other. rw (settles.jobs) (says.jobs other);
+        counters = λ other. settles.counters (reserved_placed (record { keyset = keyset; counter = counter }) reserved) other
+            ∙ by_cases (is_same_counter (record { keyset = keyset; counter = counter }) other)
+            (λ same. rw (same, settles_reserved keyset counter other past rule same) refl)
+            (λ apart. rw apart (says.counters other));
+        moment = late;
+      }
 
   pub enters_close : (by moment : ℕ) (keyset : Keyset) → broken past (Close by moment keyset) ≡ None
       → Closes old keyset new → new.moment ≡ moment → IsBookOf (Close by moment keyset ∷ past) new
   enters_close by moment keyset may closes late =
-    let opened = in_use-opened keyset past (is_in_use past (Close by moment keyset) may refl) in
-    let facts = opened_with keyset opened in
-    let known : known_in old.keysets keyset ≡ known_from (Some facts.0) (first_some (counter_in keyset) past) (list_any (is_close_of keyset) past) =
-        says.keysets keyset ∙ ap (λ found. known_from found (first_some (counter_in keyset) past) (list_any (is_close_of keyset) past)) facts.1 in
-    record {
-      keysets = λ other. closes.keysets (record { facts = facts.0; last = unwrap_or (first_some (counter_in keyset) past) 0; closed = list_any (is_close_of keyset) past }) known other
-          ∙ ap (λ known. if is_same_keyset keyset other then Some (record { facts = facts.0; last = unwrap_or (first_some (counter_in keyset) past) 0; closed = true }) else known) (says.keysets other)
-          ∙ known-closed facts.0 (first_some (counter_in keyset) past) (is_same_keyset keyset other) (first_some (facts_in other) past) (first_some (counter_in other) past) (list_any (is_close_of other) past)
-              (λ same. let is = same_found past keyset other facts.0 facts.1 same in (is.0, is.2));
-      jobs = λ other. rw (closes.jobs) (says.jobs other);
-      counters = λ other. rw (closes.counters) (says.counters other);
-      moment = late;
-    }
+      let opened = in_use-opened keyset past (is_in_use past (Close by moment keyset) may refl) in
+      let facts = opened_with keyset opened in
+      let known : known_in old.keysets keyset ≡ known_from (Some facts.0) (first_some (counter_in keyset) past) (list_any (is_close_of keyset) past) =
+      says.keysets keyset ∙ ap (λ found. known_from found (first_some (counter_in keyset) past) (list_any (is_close_of keyset) past)) facts.1 in
+      record {
+        keysets = λ other. closes.keysets (record { facts = facts.0; last = unwrap_or (first_some (counter_in keyset) past) 0; closed = list_any (is_close_of keyset) past }) known other
+            ∙ ap (λ known. if is_same_keyset keyset other then Some (record { facts = facts.0; last = unwrap_or (first_some (counter_in keyset) past) 0; closed = true }) else known) (says.keysets other)
+            ∙ known-closed facts.0 (first_some (counter_in keyset) past) (is_same_keyset keyset other) (first_some (facts_in other) past) (first_some (counter_in other) past) (list_any (is_close_of other) past)
+            (λ same. let is = same_found past keyset other facts.0 facts.1 same in (is.0, is.2));
+        jobs = λ other. rw (closes.jobs) (says.jobs other);
+        counters = λ other. rw (closes.counters) (says.counters other);
+        moment = late;
+      }
 
 -- the book with a legal entry, for which there was room
 pub enters-says : (past : List Entry) (entry : Entry) (old new : Book) → IsLegalPast past → IsBookOf past old → broken past entry ≡ None

@@ -105,16 +105,16 @@ pub reserved_below : (place : Reservation) (past : List Entry) → IsLegalPast p
 reserved_below place [] legal reserved = cc
 reserved_below place (Open by moment opened facts ∷ past) legal reserved =
     by_cases (is_same_keyset opened place.keyset)
-        (λ same. absurd (apart reserved (unopened_unreserved place past legal.0 (rw (is_same_keyset-true opened place.keyset same) at (opens_first by moment opened facts past legal)))))
-        (λ same. rw same (reserved_below place past legal.0 reserved))
+    (λ same. absurd (apart reserved (unopened_unreserved place past legal.0 (rw (is_same_keyset-true opened place.keyset same) at (opens_first by moment opened facts past legal)))))
+    (λ same. rw same (reserved_below place past legal.0 reserved))
 reserved_below place (Reserve by moment keyset counter job tar name body ∷ past) legal reserved =
     by_cases (is_same_keyset keyset place.keyset)
-        (λ keysets. rw keysets (by_cases (counter == place.counter)
-            (λ same. grind (arith, nat_tests, same))
-            (λ same. below_next keyset counter place past (is_same_keyset-true keyset place.keyset keysets)
-                (reserves_next past by moment keyset counter job tar name body legal.1).0
-                (reserved_below place past legal.0 (rw (keysets, same) at reserved)))))
-        (λ keysets. rw keysets (reserved_below place past legal.0 (rw keysets at reserved)))
+    (λ keysets. rw keysets (by_cases (counter == place.counter)
+    (λ same. grind (arith, nat_tests, same))
+    (λ same. below_next keyset counter place past (is_same_keyset-true keyset place.keyset keysets)
+    (reserves_next past by moment keyset counter job tar name body legal.1).0
+    (reserved_below place past legal.0 (rw (keysets, same) at reserved)))))
+    (λ keysets. rw keysets (reserved_below place past legal.0 (rw keysets at reserved)))
 reserved_below place (Done by moment keyset counter answer ∷ past) legal reserved = reserved_below place past legal.0 reserved
 reserved_below place (Refused by moment keyset counter status ∷ past) legal reserved = reserved_below place past legal.0 reserved
 reserved_below place (Close by moment keyset ∷ past) legal reserved = reserved_below place past legal.0 reserved
@@ -124,8 +124,8 @@ pub next_unreserved : (place : Reservation) (past : List Entry) → IsLegalPast 
     → list_any (is_reserve_of place) past ≡ false
 next_unreserved place past legal next =
     by_cases (list_any (is_reserve_of place) past)
-        (λ reserved. let below = reserved_below place past legal reserved in absurd (omega arith))
-        (λ free. free)
+    (λ reserved. let below = reserved_below place past legal reserved in absurd (omega arith))
+    (λ free. free)
 
 -- a place of the same keyset and counter
 pub same_place : (keyset : Keyset) (counter : ℕ) (place : Reservation) → (is_same_keyset keyset place.keyset && (counter == place.counter)) ≡ true
@@ -140,8 +140,8 @@ pub settles_reserved : (keyset : Keyset) (counter : ℕ) (place : Reservation) (
     → (is_same_keyset keyset place.keyset && (counter == place.counter)) ≡ true → list_any (is_reserve_of place) past ≡ true
 settles_reserved keyset counter place past rule same =
     let reserved = unless-holds (list_any (is_reserve_of (record { keyset = keyset; counter = counter })) past) Illegal.NotReserved
-        (both_hold (unless (list_any (is_reserve_of (record { keyset = keyset; counter = counter })) past) Illegal.NotReserved)
-            (unless (not (list_any (is_settlement_of (record { keyset = keyset; counter = counter })) past)) Illegal.AlreadySettled) rule).0 in
+    (both_hold (unless (list_any (is_reserve_of (record { keyset = keyset; counter = counter })) past) Illegal.NotReserved)
+    (unless (not (list_any (is_settlement_of (record { keyset = keyset; counter = counter })) past)) Illegal.AlreadySettled) rule).0 in
     rw (same_place keyset counter place same) at reserved
 
 -- a legal settlement keeps the rule of settlements
@@ -154,7 +154,7 @@ pub refused_settles : (by moment : ℕ) (keyset : Keyset) (counter status : ℕ)
     → broken_settlement (record { keyset = keyset; counter = counter }) past ≡ None
 refused_settles by moment keyset counter status past legal =
     (both_hold (broken_settlement (record { keyset = keyset; counter = counter }) past) (broken_status status)
-        (both_hold (broken_in_use keyset past) (option_or (broken_settlement (record { keyset = keyset; counter = counter }) past) (broken_status status)) (in_order past (Refused by moment keyset counter status) legal.1)).1).0
+    (both_hold (broken_in_use keyset past) (option_or (broken_settlement (record { keyset = keyset; counter = counter }) past) (broken_status status)) (in_order past (Refused by moment keyset counter status) legal.1)).1).0
 
 -- a settled counter is reserved
 pub settled_reserved : (place : Reservation) (past : List Entry) → IsLegalPast past
@@ -163,16 +163,16 @@ settled_reserved place [] legal settled = cc
 settled_reserved place (Open by moment keyset facts ∷ past) legal settled = settled_reserved place past legal.0 settled
 settled_reserved place (Reserve by moment keyset counter job tar name body ∷ past) legal settled =
     by_cases (is_same_keyset keyset place.keyset && (counter == place.counter))
-        (λ same. rw same refl)
-        (λ other. rw other (settled_reserved place past legal.0 settled))
+    (λ same. rw same refl)
+    (λ other. rw other (settled_reserved place past legal.0 settled))
 settled_reserved place (Done by moment keyset counter answer ∷ past) legal settled =
     by_cases (is_same_keyset keyset place.keyset && (counter == place.counter))
-        (λ same. settles_reserved keyset counter place past (done_settles by moment keyset counter answer past legal) same)
-        (λ other. settled_reserved place past legal.0 (rw other at settled))
+    (λ same. settles_reserved keyset counter place past (done_settles by moment keyset counter answer past legal) same)
+    (λ other. settled_reserved place past legal.0 (rw other at settled))
 settled_reserved place (Refused by moment keyset counter status ∷ past) legal settled =
     by_cases (is_same_keyset keyset place.keyset && (counter == place.counter))
-        (λ same. settles_reserved keyset counter place past (refused_settles by moment keyset counter status past legal) same)
-        (λ other. settled_reserved place past legal.0 (rw other at settled))
+    (λ same. settles_reserved keyset counter place past (refused_settles by moment keyset counter status past legal) same)
+    (λ other. settled_reserved place past legal.0 (rw other at settled))
 settled_reserved place (Close by moment keyset ∷ past) legal settled = settled_reserved place past legal.0 settled
 
 -- a counter that isn't reserved isn't settled
@@ -180,8 +180,8 @@ pub unreserved_unsettled : (place : Reservation) (past : List Entry) → IsLegal
     → list_any (is_reserve_of place) past ≡ false → list_any (is_settlement_of place) past ≡ false
 unreserved_unsettled place past legal free =
     by_cases (list_any (is_settlement_of place) past)
-        (λ settled. absurd (apart (settled_reserved place past legal settled) free))
-        (λ unsettled. unsettled)
+    (λ settled. absurd (apart (settled_reserved place past legal settled) free))
+    (λ unsettled. unsettled)
 
 -- a counter that isn't settled isn't refused
 pub unsettled_unrefused : (place : Reservation) (past : List Entry) → list_any (is_settlement_of place) past ≡ false → list_any (is_refusal_of place) past ≡ false
@@ -201,8 +201,8 @@ last_reserved job place [] last = cc
 last_reserved job place (Open by moment keyset facts ∷ past) last = last_reserved job place past last
 last_reserved job place (Reserve by moment keyset counter reserved tar name body ∷ past) last =
     by_cases (is_same_job reserved job)
-        (λ same. reserves_itself keyset counter place past (rw same at last))
-        (λ other. among keyset counter place past (last_reserved job place past (rw other at last)))
+    (λ same. reserves_itself keyset counter place past (rw same at last))
+    (λ other. among keyset counter place past (last_reserved job place past (rw other at last)))
   where
     reserves_itself : (keyset : Keyset) (counter : ℕ) (place : Reservation) (past : List Entry) → Some (record { keyset = keyset; counter = counter }) ≡ Some place
         → ((is_same_keyset keyset place.keyset && (counter == place.counter)) || list_any (is_reserve_of place) past) ≡ true

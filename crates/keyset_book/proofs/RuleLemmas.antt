@@ -68,8 +68,8 @@ pub settled_once : (keyset : Keyset) (counter : ℕ) (place : Reservation) (past
     → (is_same_keyset keyset place.keyset && (counter == place.counter)) ≡ true → list_any (is_settlement_of place) past ≡ false
 settled_once keyset counter place past rule same =
     let once = not-holds (list_any (is_settlement_of (record { keyset = keyset; counter = counter })) past) Illegal.AlreadySettled
-        (both_hold (unless (list_any (is_reserve_of (record { keyset = keyset; counter = counter })) past) Illegal.NotReserved)
-            (unless (not (list_any (is_settlement_of (record { keyset = keyset; counter = counter })) past)) Illegal.AlreadySettled) rule).1 in
+    (both_hold (unless (list_any (is_reserve_of (record { keyset = keyset; counter = counter })) past) Illegal.NotReserved)
+    (unless (not (list_any (is_settlement_of (record { keyset = keyset; counter = counter })) past)) Illegal.AlreadySettled) rule).1 in
     rw (same_place keyset counter place same) at once
 
 -- a counter is refused, by how it stands
@@ -80,12 +80,12 @@ refused-is place (Open by moment keyset facts ∷ past) legal = refused-is place
 refused-is place (Reserve by moment keyset counter job tar name body ∷ past) legal = refused-is place past legal.0
 refused-is place (Done by moment keyset counter answer ∷ past) legal =
     by_cases (is_same_keyset keyset place.keyset && (counter == place.counter))
-        (λ same. rw (same, unsettled_unrefused place past (settled_once keyset counter place past (done_settles by moment keyset counter answer past legal) same)) refl)
-        (λ other. rw other (refused-is place past legal.0))
+    (λ same. rw (same, unsettled_unrefused place past (settled_once keyset counter place past (done_settles by moment keyset counter answer past legal) same)) refl)
+    (λ other. rw other (refused-is place past legal.0))
 refused-is place (Refused by moment keyset counter status ∷ past) legal =
     by_cases (is_same_keyset keyset place.keyset && (counter == place.counter))
-        (λ same. rw same refl)
-        (λ other. rw other (refused-is place past legal.0))
+    (λ same. rw same refl)
+    (λ other. rw other (refused-is place past legal.0))
 refused-is place (Close by moment keyset ∷ past) legal = refused-is place past legal.0
 
 -- a reserved counter stands by its settlement

@@ -74,12 +74,7 @@ fn may_settle(book: &Book, keyset: KeysetId, counter: Counter) -> Result<(), Ill
     awaits_settlement(book, Reservation { keyset, counter })
 }
 
-fn may_refuse(
-    book: &Book,
-    keyset: KeysetId,
-    counter: Counter,
-    status: u8,
-) -> Result<(), Illegal>
+fn may_refuse(book: &Book, keyset: KeysetId, counter: Counter, status: u8) -> Result<(), Illegal>
     ensures { result_err result ≡ option_or (rule_in_use (known_in book.now.keysets keyset)) (option_or (rule_settlement (standing_in book.now.counters (record { keyset = keyset; counter = counter }))) (broken_status status)) }
 {
     may_settle(book, keyset, counter)?;

@@ -110,13 +110,25 @@ fn rules_of_keysets_are_named(rt: HostRuntime) -> Result<(), Fail> {
     assert!(rt; answers(&mut book, refused(one, first, 8), Err(Illegal::NotOpened))?);
     assert!(rt; answers(&mut book, closed(one, 5), Err(Illegal::NotOpened))?);
     assert!(rt; answers(&mut book, opened(one, Counter(0)), Ok(()))?);
-    assert!(rt; answers(&mut book, opened(one, Counter(0)), Err(Illegal::OpenedTwice))?);
+    assert!(rt;
+        answers(
+            &mut book,
+            opened(one, Counter(0)),
+            Err(Illegal::OpenedTwice)
+        )?
+    );
     assert!(rt; answers(&mut book, closed(one, 4), Err(Illegal::Earlier(5)))?);
     assert!(rt; answers(&mut book, closed(one, 5), Ok(()))?);
     assert!(rt; answers(&mut book, closed(one, 4), Err(Illegal::Closed))?);
     let other = reserved(alloc, one, first, 1);
     assert!(rt; answers(&mut book, other, Err(Illegal::Closed))?);
-    assert!(rt; answers(&mut book, opened(one, Counter(0)), Err(Illegal::OpenedTwice))?);
+    assert!(rt;
+        answers(
+            &mut book,
+            opened(one, Counter(0)),
+            Err(Illegal::OpenedTwice)
+        )?
+    );
     Ok(())
 }
 
@@ -133,10 +145,22 @@ fn rules_of_counters_are_named(rt: HostRuntime) -> Result<(), Fail> {
     assert!(rt; answers(&mut book, reserved(alloc, one, first, 1), Ok(()))?);
     let entry = reserved(alloc, one, second, 1);
     assert!(rt; answers(&mut book, entry, Err(Illegal::JobTaken(first)))?);
-    assert!(rt; answers(&mut book, refused(one, second, 8), Err(Illegal::NotReserved))?);
+    assert!(rt;
+        answers(
+            &mut book,
+            refused(one, second, 8),
+            Err(Illegal::NotReserved)
+        )?
+    );
     assert!(rt; answers(&mut book, refused(one, first, 8), Err(Illegal::BadStatus))?);
     assert!(rt; answers(&mut book, refused(one, first, 9), Ok(()))?);
-    assert!(rt; answers(&mut book, refused(one, first, 8), Err(Illegal::AlreadySettled))?);
+    assert!(rt;
+        answers(
+            &mut book,
+            refused(one, first, 8),
+            Err(Illegal::AlreadySettled)
+        )?
+    );
     assert!(rt; answers(&mut book, reserved(alloc, one, second, 1), Ok(()))?);
     assert!(rt; answers(&mut book, done(alloc, one, second), Ok(()))?);
     let entry = reserved(alloc, one, Counter(3), 1);
@@ -245,6 +269,7 @@ fn room_says_nothing(rt: HostRuntime) -> Result<(), Fail> {
 }
 
 const BATCHES: u32 = 1000;
+
 const BATCH: u32 = 100;
 
 #[test]
