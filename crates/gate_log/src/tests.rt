@@ -378,7 +378,7 @@ fn opening_reads_windows(rt: HostRuntime) -> Result<(), Fail> {
     Ok(())
 }
 
-/// The number of the first part that doesn't begin with 1, once the whole log is read and opened.
+/// The number of the first part that doesn't begin with 1, once the whole log is read; 0 where none is.
 fn first_wrong<D: DiskCalls>(alloc: Global, disk: &mut D) -> Result<u64, LogErr> {
     let mut reader = LogReader::begin(alloc, disk, HEAD)?;
     let mut wrong = 0;
