@@ -18,7 +18,7 @@ use Rattle.gate_log.proofs.Opened.{cut_alike}
 use Rattle.gate_log.proofs.ReaderParts.{left_by}
 
 module _ (head text : List ℕ) (parts : List (List ℕ)) (reader : ReaderState) (end : ℕ) (reading : IsReading head text parts reader) (closed : reader.standing ≡ standing.Closed)
-  (place : end + length reader.windows.ahead ≡ reader.windows.read) (within : reader.windows.read ≤ reader.windows.long) where
+    (place : end + length reader.windows.ahead ≡ reader.windows.read) (within : reader.windows.read ≤ reader.windows.long) where
   read_all : parts_of head text ≡ Opened parts (rest_of text reader.windows)
   read_all =
       sym reading.all

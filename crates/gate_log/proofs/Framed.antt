@@ -91,13 +91,16 @@ module _ (octets : List ℕ) where
   pub body_batch : (size : ℕ) → size ≡ size_at octets → size < length (drop 4 octets) → is_framed (take size (drop 4 octets)) ≡ true
       → (parts : List (List ℕ)) × (parts_from 0 (take size (drop 4 octets)) ≡ Some parts) × (batch_of octets ≡ Some (parts, size))
   body_batch size is within framed =
-      let found = framed_parts (take size (drop 4 octets)) framed in
-      (found.0, found.1, batch_of_is octets found.0 size (record {
-        size_is = is;
-        within = omega (arith, within, length-drop 4 octets);
-        parts_are = found.1;
-        has_part = found.2;
-      }))
+      let found = framed_parts (take size (drop 4 octets)) framed in (
+        found.0,
+        found.1,
+        batch_of_is octets found.0 size (record {
+          size_is = is;
+          within = omega (arith, within, length-drop 4 octets);
+          parts_are = found.1;
+          has_part = found.2;
+        }),
+      )
 
   pub no_batch : (size : ℕ) → size ≡ size_at octets → (size < length (drop 4 octets) → is_framed (take size (drop 4 octets)) ≡ true → ⊥) → batch_of octets ≡ None
   no_batch size is never =

@@ -28,7 +28,7 @@ use Rattle.gate_log.proofs.Opened.{formatted_by}
 -- ---- a part is given of the batch
 
 module _ (octets : List ℕ) (size before lefts given : ℕ) (windows : WindowsState) (standing_is : Standing) (kept : IsReader octets size before lefts given windows standing_is) (long : length octets ≡ size)
-  (part behind : List ℕ) (m : measured (drop (size - lefts) octets) ≡ Some (part, behind)) where
+    (part behind : List ℕ) (m : measured (drop (size - lefts) octets) ≡ Some (part, behind)) where
   sizes : 4 + length part + length behind ≡ lefts
   sizes =
       let is = measured_some (drop (size - lefts) octets) part behind m in
@@ -152,7 +152,7 @@ not_going state ended going = let never : has_ended state ≡ false = ap ended_i
     ended_is standing.Damaged = true
 
 module _ (head text : List ℕ) (parts : List (List ℕ)) (old mid new : ReaderState) (reading : IsReading head text parts old)
-  (reached : IsReached old mid) (same : left mid text ≡ left old text) (long : mid.windows.long ≡ old.windows.long) where
+    (reached : IsReached old mid) (same : left mid text ≡ left old text) (long : mid.windows.long ≡ old.windows.long) where
   mid_reading : IsReading head text parts mid
   mid_reading = record { long = long ∙ reading.long; number = reached.given ∙ reading.number; all = ap (in_front parts) same ∙ reading.all }
 

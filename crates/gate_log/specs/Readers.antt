@@ -94,11 +94,6 @@ IsFinishErr given (log_err.DiskFault fault) = Unit {0}
 IsFinishErr given (log_err.Damaged number) = number ≡ given + 1
 IsFinishErr given other = ⊥
 
--- how many calls a beginning makes: sync, len, and a read of the first window
-abbrev pub BeginTicks : {T : Type 0} → ℕ → ℕ → Result T LogErr → Type 0
-BeginTicks before now (Ok value) = now ≡ before + 3
-BeginTicks before now (Err error) = (before ≤ now) × (now ≤ before + 3)
-
 -- How far reading on takes the clock: at Ok by as many calls as windows were read, and else by no more than were left.
 abbrev pub ReadOnTicks : {T : Type 0} → ℕ → ℕ → ReaderState → ReaderState → Result T LogErr → Type 0
 ReadOnTicks before now old new (Ok value) = now + windows_in old.windows.read ≡ before + windows_in new.windows.read

@@ -239,10 +239,7 @@ fn body_length(standing: Standing, room: &[u8]) -> usize
 }
 
 /// Reads on to the end of the log.
-pub(crate) fn read_through<D: DiskCalls>(
-    reader: &mut LogReader,
-    disk: &mut D,
-) -> Result<(), LogErr>
+pub(crate) fn read_through<D: DiskCalls>(reader: &mut LogReader, disk: &mut D) -> Result<(), LogErr>
     ensures reading { Tells D.told disk.old → (head : List ℕ) (parts : List (List ℕ)) → IsReading head (D.told.seen disk.old) parts reader.old
         → OnOk result (IsReadUp head (D.told.seen disk.old) reader.new) }
     ensures ended { OnOk result (has_ended reader.new ≡ true) }

@@ -338,7 +338,10 @@ fn are_windows(calls: &[Call], len: u64) -> bool {
     let mut at = 0;
     for call in calls {
         match call {
-            Call::Read { at: from, len: size } => {
+            Call::Read {
+                at: from,
+                len: size,
+            } => {
                 if *from != at || *size > 65_536 {
                     return false;
                 }
@@ -354,7 +357,7 @@ fn are_windows(calls: &[Call], len: u64) -> bool {
 #[test]
 fn opening_reads_windows(rt: HostRuntime) -> Result<(), Fail> {
     let alloc = rt.alloc();
-    // five windows, the fourth part of each batch in the next
+    // five windows; the long part of each batch crosses into the next one
     let octets = log_of_batches(alloc, 5)?;
     assert_eq!(rt; octets.len(), 300_091);
     let mut disk = MemDisk::of(alloc, &octets)?;
@@ -375,7 +378,7 @@ fn opening_reads_windows(rt: HostRuntime) -> Result<(), Fail> {
     Ok(())
 }
 
-/// The number of the first part that doesn't begin with 1, once the whole log is read and opened.
+/// The number of the first part that doesn't begin with 1, once the whole log is read; 0 where none is.
 fn first_wrong<D: DiskCalls>(alloc: Global, disk: &mut D) -> Result<u64, LogErr> {
     let mut reader = LogReader::begin(alloc, disk, HEAD)?;
     let mut wrong = 0;
@@ -391,11 +394,12 @@ fn first_wrong<D: DiskCalls>(alloc: Global, disk: &mut D) -> Result<u64, LogErr>
 #[test]
 fn a_caller_finds_the_first_part_that_is_wrong(rt: HostRuntime) -> Result<(), Fail> {
     let alloc = rt.alloc();
-    let octets = log_of_batches(alloc, 5)?;
+    let mut octets = log_of_batches(alloc, 5)?;
     let mut disk = MemDisk::of(alloc, &octets)?;
     assert_eq!(rt; first_wrong(alloc, &mut disk), Ok(2));
     // the last gate is missing: the parts of that batch aren't given
-    let mut short = MemDisk::of(alloc, &octets[..300_090])?;
+    octets.truncate(300_090);
+    let mut short = MemDisk::of(alloc, &octets)?;
     assert_eq!(rt; opened(alloc, &mut short), Err(LogErr::Damaged(9)));
     Ok(())
 }

@@ -14,12 +14,13 @@ loop-parts-preserved g c =
     let e = c.in_ok-next_part.ensures in
     let before = c.loop-parts.parts.items in
     let pushed : c.push.new.self.items ≡ before ++ c.next_part.new.self.part ∷ [] =
-    c.in_ok-push.ensures.items ∙ ap (λ (p : List ℕ). before ++ p ∷ []) (c.in_ok-from_slice.ensures ∙ c.part.ensures) in
-    (looked_on told counts old mid new inv.0 e.tells e.cause.answer e.content e.moments,
-        λ tells head reading.
-        let on : IsReading head (told.seen old) (before ++ c.next_part.new.self.part ∷ []) c.next_part.new.self =
-        rw c.if-branch.true at (turn_seen told counts old mid new inv.0 tells e.content c.loop-parts.reader c.next_part.new.self c.in_ok-next_part.field-0 e.reading head before (inv.1 tells head reading)) in
-        subst (λ (l : List (List ℕ)). IsReading head (told.seen old) l c.next_part.new.self) (sym pushed) on)
+    c.in_ok-push.ensures.items ∙ ap (λ (p : List ℕ). before ++ p ∷ []) (c.in_ok-from_slice.ensures ∙ c.part.ensures) in (
+      looked_on told counts old mid new inv.0 e.tells e.cause.answer e.content e.moments,
+      λ tells head reading.
+          let on : IsReading head (told.seen old) (before ++ c.next_part.new.self.part ∷ []) c.next_part.new.self =
+          rw c.if-branch.true at (turn_seen told counts old mid new inv.0 tells e.content c.loop-parts.reader c.next_part.new.self c.in_ok-next_part.field-0 e.reading head before (inv.1 tells head reading)) in
+          subst (λ (l : List (List ℕ)). IsReading head (told.seen old) l c.next_part.new.self) (sym pushed) on,
+    )
 
 pub returns-clause-reading : goal.returns-clause-reading
 returns-clause-reading g c = λ tells head reading.

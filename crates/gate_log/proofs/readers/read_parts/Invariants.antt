@@ -9,7 +9,7 @@ abbrev pub invariant-loop-parts : goal.invariant-loop-parts
 invariant-loop-parts g l =
     HasLooked g.D.DiskCalls.told g.D.DiskCalls.counts l.fn.disk l.disk
     × (Tells g.D.DiskCalls.told l.fn.disk → (head : List ℕ) → IsReading head (g.D.DiskCalls.told.seen l.fn.disk) [] l.fn.reader
-        → IsReading head (g.D.DiskCalls.told.seen l.fn.disk) l.parts.items l.reader)
+    → IsReading head (g.D.DiskCalls.told.seen l.fn.disk) l.parts.items l.reader)
 
 abbrev pub decreases-loop-parts : goal.decreases-loop-parts
 decreases-loop-parts g l = octets_left l.reader

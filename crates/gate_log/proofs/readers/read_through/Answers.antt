@@ -12,13 +12,14 @@ loop-preserved g c =
     let mid = c.loop.disk in
     let new = c.next_part.new.disk in
     let inv = c.loop.invariant in
-    let e = c.in_ok-next_part.ensures in
-    (looked_on told counts old mid new inv.0 e.tells e.cause.answer e.content e.moments,
-        λ tells head parts reading.
-        let up = inv.1 tells head parts reading in
-        let on : IsReading head (told.seen old) (up.0 ++ c.next_part.new.self.part ∷ []) c.next_part.new.self =
-        rw c.if-branch.true at (turn_seen told counts old mid new inv.0 tells e.content c.loop.reader c.next_part.new.self c.in_ok-next_part.field-0 e.reading head up.0 up.1) in
-        (up.0 ++ c.next_part.new.self.part ∷ [], on))
+    let e = c.in_ok-next_part.ensures in (
+      looked_on told counts old mid new inv.0 e.tells e.cause.answer e.content e.moments,
+      λ tells head parts reading.
+          let up = inv.1 tells head parts reading in
+          let on : IsReading head (told.seen old) (up.0 ++ c.next_part.new.self.part ∷ []) c.next_part.new.self =
+          rw c.if-branch.true at (turn_seen told counts old mid new inv.0 tells e.content c.loop.reader c.next_part.new.self c.in_ok-next_part.field-0 e.reading head up.0 up.1) in
+          (up.0 ++ c.next_part.new.self.part ∷ [], on),
+    )
 
 pub returns-clause-reading : goal.returns-clause-reading
 returns-clause-reading g c = λ tells head parts reading.

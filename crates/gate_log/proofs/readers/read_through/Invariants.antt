@@ -9,7 +9,7 @@ abbrev pub invariant-loop : goal.invariant-loop
 invariant-loop g l =
     HasLooked g.D.DiskCalls.told g.D.DiskCalls.counts l.fn.disk l.disk
     × (Tells g.D.DiskCalls.told l.fn.disk → (head : List ℕ) (parts : List (List ℕ)) → IsReading head (g.D.DiskCalls.told.seen l.fn.disk) parts l.fn.reader
-        → IsReadUp head (g.D.DiskCalls.told.seen l.fn.disk) l.reader)
+    → IsReadUp head (g.D.DiskCalls.told.seen l.fn.disk) l.reader)
 
 abbrev pub decreases-loop : goal.decreases-loop
 decreases-loop g l = octets_left l.reader

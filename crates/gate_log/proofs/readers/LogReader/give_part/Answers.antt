@@ -50,10 +50,11 @@ returns-in-Some c =
     let kept = c.self.invariant in
     let new_part = part_is items size c.self.inside.part c.self.inside.left c.self.inside.given c.self.inside.windows c.self.inside.standing kept long part behind m in
     let new_batch = behind_is items size c.self.inside.part c.self.inside.left c.self.inside.given c.self.inside.windows c.self.inside.standing kept long part behind m in
-    let going = is_going items size c.self.inside.part c.self.inside.left c.self.inside.given c.self.inside.windows c.self.inside.standing kept long part behind m in
-    (ap measured (sym batch) ∙ m ∙ ap (λ (p : List ℕ). Some (p, behind)) (sym new_part) ∙ ap (λ (b : List ℕ). Some (take (length part) (drop (size - length behind - length part) items), b)) (sym new_batch),
-        ap (λ (l : List ℕ). is_some (parts_from 0 l)) (sym batch) ∙ kept.framed,
-        sym (ap (λ (s : ReaderState). s.standing) v) ∙ going,
-        ap (λ (s : ReaderState). s.given + 1) v,
-        ap (λ (s : ReaderState). s.windows) v,
-        ap (λ (s : ReaderState). s.standing) v)
+    let going = is_going items size c.self.inside.part c.self.inside.left c.self.inside.given c.self.inside.windows c.self.inside.standing kept long part behind m in (
+      ap measured (sym batch) ∙ m ∙ ap (λ (p : List ℕ). Some (p, behind)) (sym new_part) ∙ ap (λ (b : List ℕ). Some (take (length part) (drop (size - length behind - length part) items), b)) (sym new_batch),
+      ap (λ (l : List ℕ). is_some (parts_from 0 l)) (sym batch) ∙ kept.framed,
+      sym (ap (λ (s : ReaderState). s.standing) v) ∙ going,
+      ap (λ (s : ReaderState). s.given + 1) v,
+      ap (λ (s : ReaderState). s.windows) v,
+      ap (λ (s : ReaderState). s.standing) v,
+    )
