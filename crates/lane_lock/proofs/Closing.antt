@@ -48,15 +48,15 @@ module _ {L O E X : Type 0} (m : Meaning L O E X) (h : E → ℕ) where
   one_more e es [] one_of = absurd (omega arith)
   one_more e es (p ∷ ps) one_of = dite (ℕ_discrete (m.number_of e) p.number)
       (λ q.
-          let one : same (m.number_of e) p.number ≡ 1 = ap (same (m.number_of e)) (sym q) ∙ same_here (m.number_of e) in
-          let first = heavier e es p.number q in
-          let others = none_more e es ps (omega arith) in
-          omega arith)
+      let one : same (m.number_of e) p.number ≡ 1 = ap (same (m.number_of e)) (sym q) ∙ same_here (m.number_of e) in
+      let first = heavier e es p.number q in
+      let others = none_more e es ps (omega arith) in
+      omega arith)
       (λ q.
-          let no : same (m.number_of e) p.number ≡ 0 = same_apart (m.number_of e) p.number q in
-          let first = as_heavy e es p.number q in
-          let others = one_more e es ps (omega arith) in
-          omega arith)
+      let no : same (m.number_of e) p.number ≡ 0 = same_apart (m.number_of e) p.number q in
+      let first = as_heavy e es p.number q in
+      let others = one_more e es ps (omega arith) in
+      omega arith)
 
   nothing_weighs : (parts : List (Part E)) → total (λ (p : Part E). total h (own m p.number [])) parts ≡ 0
   nothing_weighs [] = refl
@@ -78,7 +78,7 @@ module _ {L O E X : Type 0} (m : Meaning L O E X) (key : Key L) where
   pub weighs : (v : View L E X) (lane : L) → IsGrown m key v lane → IsAsHeavy m key v lane
   weighs v lane g h = weighed m h key (added_since m key (m.entries lane)) v.parts g.seats g.numbers
       ∙ sym (total_same (λ (p : Part E). total h p.added) (λ (p : Part E). total h (own m p.number (added_since m key (m.entries lane)))) v.parts
-        (Rattle.lane_lock.proofs.Counting.Each_map _ _ v.parts (λ p e. ap (total h) e) g.parts))
+      (Rattle.lane_lock.proofs.Counting.Each_map _ _ v.parts (λ p e. ap (total h) e) g.parts))
 
   -- no other view has a number
   alone : (s : State (Option L) (View L E X)) (r : IsRuled m key s) (id j n : ℕ) (v u : View L E X) → get_elem? s.views id ≡ some v → HasAll key v
@@ -96,12 +96,12 @@ module _ {L O E X : Type 0} (m : Meaning L O E X) (key : Key L) where
       let those = r.numbers n in
       let most = within_most 1 (suc key.seats) n in
       dite (dec_le 1 (within 1 (suc key.seats) n))
-        (λ some_seat.
-            let above = within_low 1 (suc key.seats) n some_seat in
-            let below = within_high 1 (suc key.seats) n some_seat in
-            let mine = all n (above, omega arith) in
-            omega arith)
-        (λ no_seat. omega arith)
+      (λ some_seat.
+      let above = within_low 1 (suc key.seats) n some_seat in
+      let below = within_high 1 (suc key.seats) n some_seat in
+      let mine = all n (above, omega arith) in
+      omega arith)
+      (λ no_seat. omega arith)
 
   set_by : (s : State (Option L) (View L E X)) (r : IsRuled m key s) (id : ℕ) (v : View L E X) (x : X) → get_elem? s.views id ≡ some v → HasAll key v
       → IsSetBy m key s.views x → (m.ending key.put.value ≡ Some x) ⊎ IsIn x v.ends
@@ -138,7 +138,7 @@ module _ {L O E X : Type 0} (m : Meaning L O E X) (key : Key L) where
       let its : waits r.turn u ≡ 1 = ap (waits_at r.turn) holding ∙ same_here r.turn in
       let t = (r.each j u g).seated r.turn (omega arith) in
       absurd (alone s r id j t.0 v u at all g
-        (λ e. rests v.stage r.turn idle (sym (ap (λ (z : View L E X). z.stage) (some-injective u v (sym g ∙ (ap (get_elem? s.views) e ∙ at)))) ∙ holding)) t.1)
+      (λ e. rests v.stage r.turn idle (sym (ap (λ (z : View L E X). z.stage) (some-injective u v (sym g ∙ (ap (get_elem? s.views) e ∙ at)))) ∙ holding)) t.1)
 
   pub closes : ((a b : L) → m.later a b → m.opening b ≡ m.opening a) → (id : ℕ) (v : View L E X) (ws : List ℕ) (xs : List (Option L))
       → v.stage ≡ Resting → HasAll key v → Final (Seen (IsRuled m key) id v) ws xs → (lane : L) × (get_elem? xs 0 ≡ some (Some lane)) × IsGrown m key v lane

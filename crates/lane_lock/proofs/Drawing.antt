@@ -66,8 +66,18 @@ module _ {L O E X : Type 0} (m : Meaning L O E X) (key : Key L) where
   draws slots id me old new idle n some_list one small s r wide at fit =
       let found = slice_index s.words 0 in
       exchanged found old new
-        (λ k. (w : View L E X) × (a : Act (Option L)) × Valid s.homes me.1 a × IsRuled m key (stepped s 0 k id me.1 w a) × drawn (step slots 0 old new none) me found (w, carried_after me.1 a))
-        (λ hit. (staged (Waiting old) me.0, keeps, tt, drew s id me.0 old new r at idle n some_list one small hit,
-            ((λ e. ap (λ k. (staged (Waiting k) me.0, me.1)) (sym hit)), (λ ne. absurd (ne hit)))))
-        (λ miss. (me.0, keeps, tt, same_state m key s _ _ r (ap (λ (l : List ℕ). slice_set l 0 (slice_index l 0)) r.words ∙ sym r.words) (set_again s.views id me.0 at),
-            ((λ e. absurd (miss e)), (λ ne. refl))))
+      (λ k. (w : View L E X) × (a : Act (Option L)) × Valid s.homes me.1 a × IsRuled m key (stepped s 0 k id me.1 w a) × drawn (step slots 0 old new none) me found (w, carried_after me.1 a))
+      (λ hit. (
+        staged (Waiting old) me.0,
+        keeps,
+        tt,
+        drew s id me.0 old new r at idle n some_list one small hit,
+        ((λ e. ap (λ k. (staged (Waiting k) me.0, me.1)) (sym hit)), (λ ne. absurd (ne hit))),
+      ))
+      (λ miss. (
+        me.0,
+        keeps,
+        tt,
+        same_state m key s _ _ r (ap (λ (l : List ℕ). slice_set l 0 (slice_index l 0)) r.words ∙ sym r.words) (set_again s.views id me.0 at),
+        ((λ e. absurd (miss e)), (λ ne. refl)),
+      ))

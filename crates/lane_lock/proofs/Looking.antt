@@ -76,8 +76,13 @@ module _ {L O E X : Type 0} (m : Meaning L O E X) (key : Key L) where
       Goal = (w : View L E X) × (a : Act (Option L)) × Valid s.homes me.1 a × IsRuled m key (stepped s 1 (slice_index s.words 1) id me.1 w a) × looked m (step slots 1 0 0 none) me (slice_index s.words 1) (w, carried_after me.1 a)
 
       not_yet : r.turn ≢ ticket → Goal
-      not_yet ne = (me.0, keeps, tt, same_state m key s _ _ r (ap (λ (l : List ℕ). slice_set l 1 (slice_index l 1)) r.words ∙ sym r.words) (set_again s.views id me.0 at),
-          λ t e. ((λ other. refl), (λ same. absurd (ne (sym here ∙ (same ∙ same_ticket t ticket (sym e ∙ waiting)))))))
+      not_yet ne = (
+        me.0,
+        keeps,
+        tt,
+        same_state m key s _ _ r (ap (λ (l : List ℕ). slice_set l 1 (slice_index l 1)) r.words ∙ sym r.words) (set_again s.views id me.0 at),
+        λ t e. ((λ other. refl), (λ same. absurd (ne (sym here ∙ (same ∙ same_ticket t ticket (sym e ∙ waiting)))))),
+      )
 
       take_it : r.turn ≡ ticket → Slot m key r.turn r.now s → Goal
       take_it e (outside j u homes g holding) = absurd (only_holder m key s r id j me.0 u at (ap (waits_at r.turn) (waiting ∙ ap Waiting (sym e)) ∙ same_here r.turn) g holding
@@ -88,13 +93,15 @@ module _ {L O E X : Type 0} (m : Meaning L O E X) (key : Key L) where
         ap (λ (l : List _). get_elem? l 0) homes,
         took s id me.0 ticket lane r at waiting (sym e) homes home,
         λ t q.
-            let same : t ≡ ticket = same_ticket t ticket (sym q ∙ waiting) in
-            ((λ other. absurd (other (here ∙ (e ∙ sym same)))), (λ _. (
-              lane,
-              ap (λ k. (taken k (shown m lane) me.0, (0, Some lane) ∷ me.1)) (sym same) ∙ ap (λ c. (taken t (shown m lane) me.0, (0, Some lane) ∷ c)) empty,
-              λ k named. subst (λ (z : Key L). IsFound m z me.0 lane) (sym ((r.each id me.0 at).named k named)) (found_at_home m key opens r.turn r.now me.0 lane (r.each id me.0 at) r.stands home),
-            ))),
-        )
+            let same : t ≡ ticket = same_ticket t ticket (sym q ∙ waiting) in (
+              (λ other. absurd (other (here ∙ (e ∙ sym same)))),
+              (λ _. (
+                lane,
+                ap (λ k. (taken k (shown m lane) me.0, (0, Some lane) ∷ me.1)) (sym same) ∙ ap (λ c. (taken t (shown m lane) me.0, (0, Some lane) ∷ c)) empty,
+                λ k named. subst (λ (z : Key L). IsFound m z me.0 lane) (sym ((r.each id me.0 at).named k named)) (found_at_home m key opens r.turn r.now me.0 lane (r.each id me.0 at) r.stands home),
+              )),
+            ),
+      )
 
       its_turn : r.turn ≡ ticket → Goal
       its_turn e = take_it e r.slot

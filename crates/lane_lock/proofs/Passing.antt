@@ -73,18 +73,20 @@ module _ {L O E X : Type 0} (m : Meaning L O E X) (key : Key L) (n : ℕ) (befor
   parts_other : (parts : List (Part E)) → Each (λ p. p.added ≡ own m p.number (added_since m key before)) parts → numbered n parts ≡ 0
       → Each (λ p. p.added ≡ own m p.number (added_since m key after)) parts
   parts_other [] h none_of = tt
-  parts_other (p ∷ ps) h none_of =
-      (h.0 ∙ sym (own_other p.number (λ e. let one : same n p.number ≡ 1 = ap (same n) e ∙ same_here n in absurd (omega arith))),
-      parts_other ps h.1 (omega arith))
+  parts_other (p ∷ ps) h none_of = (
+    h.0 ∙ sym (own_other p.number (λ e. let one : same n p.number ≡ 1 = ap (same n) e ∙ same_here n in absurd (omega arith))),
+    parts_other ps h.1 (omega arith),
+  )
 
   parts_own : (parts : List (Part E)) → leader parts ≡ Some n → numbered n parts ≤ 1 → Each (λ p. p.added ≡ own m p.number (added_since m key before)) parts
       → Each (λ p. p.added ≡ own m p.number (added_since m key after)) (added_to_first (behind before after) parts)
   parts_own [] led few h = tt
   parts_own (p ∷ ps) led few h =
       let e : p.number ≡ n = cc in
-      let one : same n p.number ≡ 1 = ap (same n) e ∙ same_here n in
-      (ap (λ l. l ++ behind before after) (h.0 ∙ ap (λ k. own m k (added_since m key before)) e) ∙ (sym own_longer ∙ ap (λ k. own m k (added_since m key after)) (sym e)),
-      parts_other ps h.1 (omega arith))
+      let one : same n p.number ≡ 1 = ap (same n) e ∙ same_here n in (
+        ap (λ l. l ++ behind before after) (h.0 ∙ ap (λ k. own m k (added_since m key before)) e) ∙ (sym own_longer ∙ ap (λ k. own m k (added_since m key after)) (sym e)),
+        parts_other ps h.1 (omega arith),
+      )
 
 module _ {L O E X : Type 0} (m : Meaning L O E X) (key : Key L) where
   -- another view, once this one has put the lane back
@@ -125,7 +127,7 @@ module _ {L O E X : Type 0} (m : Meaning L O E X) (key : Key L) where
     front = Rattle.lane_lock.proofs.Sights.begins_chain (m.entries key.put.value) now.entries now'.entries st.front goes.0;
     seats = subst (λ (l : List E). Each (λ e. IsNumber key (m.number_of e)) l) (sym (added_more m key n now.entries now'.entries st.front goes.0 by_own))
         (Each_append (λ e. IsNumber key (m.number_of e)) (added_since m key now.entries) (behind now.entries now'.entries) st.seats
-          (Each_map (λ e. m.number_of e ≡ n) (λ e. IsNumber key (m.number_of e)) (behind now.entries now'.entries) (λ e q. subst (λ (z : ℕ). IsNumber key z) (sym q) number) by_own));
+        (Each_map (λ e. m.number_of e ≡ n) (λ e. IsNumber key (m.number_of e)) (behind now.entries now'.entries) (λ e q. subst (λ (z : ℕ). IsNumber key z) (sym q) number) by_own));
     kept = λ x e. goes.1 x (st.kept x e);
   }
 
@@ -134,9 +136,15 @@ module _ {L O E X : Type 0} (m : Meaning L O E X) (key : Key L) where
       → IsSetBy m key (set views id (left now' v)) x
   set_left views id n v now' x at led keeps_it was e = ⊎_elim
       (λ before. set_still m key views id v (left now' v) x at (λ k h. subst (λ (z : ℕ). 0 < z) (sym (numbered_added k (behind v.seen.entries now'.entries) v.parts)) h)
-          (λ h. is_in_left x v.ends (newly_set v.seen.ending now'.ending) h) (was x before))
-      (λ new. inr (id, left now' v, n, set_found views id v (left now' v) at,
-          subst (λ (z : ℕ). 0 < z) (sym (numbered_added n (behind v.seen.entries now'.entries) v.parts)) (led_number v.parts n led), is_in_right x v.ends (newly_set v.seen.ending now'.ending) new))
+      (λ h. is_in_left x v.ends (newly_set v.seen.ending now'.ending) h) (was x before))
+      (λ new. inr (
+        id,
+        left now' v,
+        n,
+        set_found views id v (left now' v) at,
+        subst (λ (z : ℕ). 0 < z) (sym (numbered_added n (behind v.seen.entries now'.entries) v.parts)) (led_number v.parts n led),
+        is_in_right x v.ends (newly_set v.seen.ending now'.ending) new,
+      ))
       (newly_or v.seen.ending now'.ending x keeps_it e)
 
   -- the number of a view is the number of a seat, and it has it once
@@ -198,17 +206,17 @@ module _ {L O E X : Type 0} (m : Meaning L O E X) (key : Key L) where
             omega arith;
         each = λ j u g. ⊎_elim
             (λ (p : (j ≡ id) × (w ≡ u)). subst (λ (z : View L E X). Fits m key (suc r.turn) (shown m lane) z) p.1
-              (fits_left r.turn (suc r.turn) n v (shown m lane) st goes c.by_own led (once s r id n v at) (subst (λ (z : Sight E X). Fits m key r.turn z v) saw (r.each id v at))))
+            (fits_left r.turn (suc r.turn) n v (shown m lane) st goes c.by_own led (once s r id n v at) (subst (λ (z : Sight E X). Fits m key r.turn z v) saw (r.each id v at))))
             (λ (p : (j ≢ id) × (get_elem? s.views j ≡ some u)). fits_beside r.turn (suc r.turn) n v.seen (shown m lane) u st goes c.by_own
-              (not_beside s r id j n v u at p.1 p.0 (omega arith))
-              (λ k e. only_holder m key s r id j v u at mine p.1 (e ∙ ap Holding ((r.each j u p.1).holds k e).0) p.0)
-              (subst (λ (z : Sight E X). Fits m key r.turn z u) saw (r.each j u p.1)))
+            (not_beside s r id j n v u at p.1 p.0 (omega arith))
+            (λ k e. only_holder m key s r id j v u at mine p.1 (e ∙ ap Holding ((r.each j u p.1).holds k e).0) p.0)
+            (subst (λ (z : Sight E X). Fits m key r.turn z u) saw (r.each j u p.1)))
             (at_set s.views id j w u g);
         stands = stands_left n v.seen (shown m lane) st goes c.by_own number;
         set = λ x e. set_left s.views id n v (shown m lane) x at led c.ending (λ y q. r.set y (ap (λ (z : Sight E X). z.ending) saw ∙ q)) e;
         slot = inside lane homes_are (record { shows = refl; later = c.later; at_home = c.at_home })
             (λ j k u g e. ⊎_elim (λ (p : (j ≡ id) × (w ≡ u)). rests Resting k refl (ap (λ (z : View L E X). z.stage) p.1 ∙ e))
-              (λ (p : (j ≢ id) × (get_elem? s.views j ≡ some u)). only_holder m key s r id j v u at mine p.1 (e ∙ ap Holding ((r.each j u p.1).holds k e).0) p.0) (at_set s.views id j w u g));
+            (λ (p : (j ≢ id) × (get_elem? s.views j ≡ some u)). only_holder m key s r id j v u at mine p.1 (e ∙ ap Holding ((r.each j u p.1).holds k e).0) p.0) (at_set s.views id j w u g));
       }
 
   out_homes : (s : State (Option L) (View L E X)) (r : IsRuled m key s) (id t : ℕ) (v : View L E X) → get_elem? s.views id ≡ some v → v.stage ≡ Holding t
@@ -230,7 +238,11 @@ module _ {L O E X : Type 0} (m : Meaning L O E X) (key : Key L) where
   passes slots id n me lane carried is_held led c s r wide at fit =
       let holding = holder me.0.stage is_held in
       let homes : put_back s.homes me.1 ≡ some (Some lane) ∷ [] =
-          ap (λ c. put_back s.homes c) carried ∙ ap (λ (l : List _). slice_set l 0 (some (Some lane))) (out_homes s r id _ me.0 at holding r.slot) in
-      (left (shown m lane) me.0, gives, tt, passed_on s id n _ me.0 lane (put_back s.homes me.1) r at holding led c homes,
-          λ other e. ap (λ l. (left (shown m l) me.0, Rattle.atomic_table.specs.Table.rest me.1)) (same_lane lane other me.1 carried e)
-              ∙ ap (λ c. (left (shown m other) me.0, Rattle.atomic_table.specs.Table.rest c)) e)
+      ap (λ c. put_back s.homes c) carried ∙ ap (λ (l : List _). slice_set l 0 (some (Some lane))) (out_homes s r id _ me.0 at holding r.slot) in (
+        left (shown m lane) me.0,
+        gives,
+        tt,
+        passed_on s id n _ me.0 lane (put_back s.homes me.1) r at holding led c homes,
+        λ other e. ap (λ l. (left (shown m l) me.0, Rattle.atomic_table.specs.Table.rest me.1)) (same_lane lane other me.1 carried e)
+            ∙ ap (λ c. (left (shown m other) me.0, Rattle.atomic_table.specs.Table.rest c)) e,
+      )

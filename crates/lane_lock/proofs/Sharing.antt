@@ -59,10 +59,10 @@ module _ {E X : Type 0} where
       → IsNoEarlier (both_seen a b) now × IsNoEarlier a (both_seen a b) × IsNoEarlier b (both_seen a b)
   both_fit a b now h k =
       let t = longer_by (leb (length b.entries) (length a.entries)) a.entries b.entries now.entries refl h.0 k.0 in (
-      (t.0, λ x e. either_is a.ending b.ending now.ending x h.1 k.1 e),
-      (t.1, λ x e. first_end a.ending b.ending x e),
-      (t.2, λ x e. second_end a.ending b.ending now.ending x h.1 k.1 e),
-    )
+        (t.0, λ x e. either_is a.ending b.ending now.ending x h.1 k.1 e),
+        (t.1, λ x e. first_end a.ending b.ending x e),
+        (t.2, λ x e. second_end a.ending b.ending now.ending x h.1 k.1 e),
+      )
 
 module _ {L O E X : Type 0} (m : Meaning L O E X) (key : Key L) where
   fits_giving : (turn : ℕ) (now : Sight E X) (v : View L E X) → v.next < v.past → Fits m key turn now v → Fits m key turn now (giving v)
@@ -122,7 +122,7 @@ module _ {L O E X : Type 0} (m : Meaning L O E X) (key : Key L) where
             omega arith;
         each = λ j z g. ⊎_elim
             (λ was. ⊎_elim (λ (p : (j ≡ id) × (w ≡ z)). subst (λ (y : View L E X). Fits m key r.turn r.now y) p.1 (fits_giving r.turn r.now v some_left (r.each id v at)))
-              (λ (p : (j ≢ id) × (get_elem? s.views j ≡ some z)). r.each j z p.1) (at_set s.views id j w z was))
+            (λ (p : (j ≢ id) × (get_elem? s.views j ≡ some z)). r.each j z p.1) (at_set s.views id j w z was))
             (λ (p : u ≡ z). subst (λ (y : View L E X). Fits m key r.turn r.now y) p (fits_given r.turn r.now v some_left (r.each id v at)))
             (at_snoc vs u z j g);
         stands = r.stands;
@@ -162,15 +162,15 @@ module _ {L O E X : Type 0} (m : Meaning L O E X) (key : Key L) where
   set_joined views id other v w x at bt ne (inl e) = inl e
   set_joined views id other v w x at bt ne (inr (j, u, n, g, some_list, is_in)) = dite (ℕ_discrete j id)
       (λ e. let same_view : u ≡ v = some-injective u v (sym g ∙ (ap (get_elem? views) e ∙ at)) in
-          let more = total_append (λ (p : Part E). same n p.number) v.parts w.parts in
-          let has_it : 0 < numbered n v.parts = subst (λ (z : View L E X). 0 < numbered n z.parts) same_view some_list in
-          inr (id, joined v w, n, here, omega arith, is_in_left x v.ends w.ends (subst (λ (z : View L E X). IsIn x z.ends) same_view is_in)))
+      let more = total_append (λ (p : Part E). same n p.number) v.parts w.parts in
+      let has_it : 0 < numbered n v.parts = subst (λ (z : View L E X). 0 < numbered n z.parts) same_view some_list in
+      inr (id, joined v w, n, here, omega arith, is_in_left x v.ends w.ends (subst (λ (z : View L E X). IsIn x z.ends) same_view is_in)))
       (λ not_id. dite (ℕ_discrete j other)
-        (λ e. let same_view : u ≡ w = some-injective u w (sym g ∙ (ap (get_elem? views) e ∙ bt)) in
-            let more = total_append (λ (p : Part E). same n p.number) v.parts w.parts in
-            let has_it : 0 < numbered n w.parts = subst (λ (z : View L E X). 0 < numbered n z.parts) same_view some_list in
-            inr (id, joined v w, n, here, omega arith, is_in_right x v.ends w.ends (subst (λ (z : View L E X). IsIn x z.ends) same_view is_in)))
-        (λ not_other. inr (j, u, n, set_else (set views id (joined v w)) other j spent not_other ∙ (set_else views id j (joined v w) not_id ∙ g), some_list, is_in)))
+      (λ e. let same_view : u ≡ w = some-injective u w (sym g ∙ (ap (get_elem? views) e ∙ bt)) in
+      let more = total_append (λ (p : Part E). same n p.number) v.parts w.parts in
+      let has_it : 0 < numbered n w.parts = subst (λ (z : View L E X). 0 < numbered n z.parts) same_view some_list in
+      inr (id, joined v w, n, here, omega arith, is_in_right x v.ends w.ends (subst (λ (z : View L E X). IsIn x z.ends) same_view is_in)))
+      (λ not_other. inr (j, u, n, set_else (set views id (joined v w)) other j spent not_other ∙ (set_else views id j (joined v w) not_id ∙ g), some_list, is_in)))
     where
       here : get_elem? (set (set views id (joined v w)) other spent) id ≡ some (joined v w)
       here = set_else (set views id (joined v w)) other id spent (λ e. ne (sym e)) ∙ set_found views id v (joined v w) at
@@ -206,9 +206,9 @@ module _ {L O E X : Type 0} (m : Meaning L O E X) (key : Key L) where
         each = λ j z g. ⊎_elim
             (λ (p : (j ≡ other) × (spent ≡ z)). subst (λ (y : View L E X). Fits m key r.turn r.now y) p.1 (fits_spent r.turn r.now))
             (λ (q : (j ≢ other) × (get_elem? vs j ≡ some z)). ⊎_elim
-              (λ (p : (j ≡ id) × (u ≡ z)). subst (λ (y : View L E X). Fits m key r.turn r.now y) p.1 (fits_joined r.turn r.now v w idle (r.each id v at) (r.each other w bt)))
-              (λ (p : (j ≢ id) × (get_elem? s.views j ≡ some z)). r.each j z p.1)
-              (at_set s.views id j u z q.1))
+            (λ (p : (j ≡ id) × (u ≡ z)). subst (λ (y : View L E X). Fits m key r.turn r.now y) p.1 (fits_joined r.turn r.now v w idle (r.each id v at) (r.each other w bt)))
+            (λ (p : (j ≢ id) × (get_elem? s.views j ≡ some z)). r.each j z p.1)
+            (at_set s.views id j u z q.1))
             (at_set vs other j spent z g);
         stands = r.stands;
         set = λ x e. set_joined s.views id other v w x at bt ne (r.set x e);
@@ -217,6 +217,10 @@ module _ {L O E X : Type 0} (m : Meaning L O E X) (key : Key L) where
       }
 
   pub learns : (slots id : ℕ) (me : Me (Option L) (View L E X)) → Allows (IsRuled m key) slots id me 0 (λ n. n) (learned (step slots 0 0 0 none) me)
-  learns slots id me s r wide at fit = (me.0, keeps, tt,
-      same_state m key s _ _ r (ap (λ (l : List ℕ). slice_set l 0 (slice_index l 0)) r.words ∙ sym r.words) (set_again s.views id me.0 at),
-      (refl, (r.each id me.0 at).also))
+  learns slots id me s r wide at fit = (
+    me.0,
+    keeps,
+    tt,
+    same_state m key s _ _ r (ap (λ (l : List ℕ). slice_set l 0 (slice_index l 0)) r.words ∙ sym r.words) (set_again s.views id me.0 at),
+    (refl, (r.each id me.0 at).also),
+  )

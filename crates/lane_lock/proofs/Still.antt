@@ -41,7 +41,7 @@ module _ {L O E X : Type 0} (m : Meaning L O E X) (key : Key L) where
   set_still views id v w x at keeps_numbers keeps_ends (inl e) = inl e
   set_still views id v w x at keeps_numbers keeps_ends (inr (j, u, n, g, some_list, is_in)) = dite (ℕ_discrete j id)
       (λ e. let same_view : u ≡ v = some-injective u v (sym g ∙ (ap (get_elem? views) e ∙ at)) in
-          inr (id, w, n, set_found views id v w at, keeps_numbers n (subst (λ (z : View L E X). 0 < numbered n z.parts) same_view some_list), keeps_ends (subst (λ (z : View L E X). IsIn x z.ends) same_view is_in)))
+      inr (id, w, n, set_found views id v w at, keeps_numbers n (subst (λ (z : View L E X). 0 < numbered n z.parts) same_view some_list), keeps_ends (subst (λ (z : View L E X). IsIn x z.ends) same_view is_in)))
       (λ ne. inr (j, u, n, set_else views id j w ne ∙ g, some_list, is_in))
 
   -- the slot is where it was, where the view that is changed neither had the lane nor has it

@@ -31,4 +31,3 @@ behind xs ys = drop (length xs) ys
 -- the second list begins with the first
 abbrev pub Begins : {A : Type 0} → List A → List A → Type 0
 Begins xs ys = ys ≡ xs ++ behind xs ys
-

@@ -53,8 +53,8 @@ module _ {L O E X : Type 0} (m : Meaning L O E X) (key : Key L) where
   -- the end is the one that the lane was put in with, or one that a view with a number has set
   abbrev pub IsSetBy : List (View L E X) → X → Type 0
   IsSetBy views x =
-    (m.ending key.put.value ≡ Some x)
-    ⊎ ((j : ℕ) × (v : View L E X) × (n : ℕ) × (get_elem? views j ≡ some v) × (0 < numbered n v.parts) × IsIn x v.ends)
+      (m.ending key.put.value ≡ Some x)
+      ⊎ ((j : ℕ) × (v : View L E X) × (n : ℕ) × (get_elem? views j ≡ some v) × (0 < numbered n v.parts) × IsIn x v.ends)
 
   pub record IsRuled (s : State (Option L) (View L E X)) : Type 0 where
     -- word 0 is the next ticket, word 1 the turn

@@ -11,6 +11,7 @@ use crate::keeping::Kept;
 use crate::locks::{Inner, LaneLock};
 use crate::plays::{Draw, Look, Pass};
 use crate::seats::{Held, Seat};
+use std::hint::spin_loop;
 use std::sync::Wait;
 use std::thread;
 
@@ -54,7 +55,7 @@ impl<L: Kept> LaneLock<L> {
         unreachable!()
     }
 
-    // Waits until it is the ticket's turn.
+    // Waits until it is the ticket's turn. It yields after each 256 looks, since the turn is often near.
     fn wait_turn<R: Wait>(&self, rt: &R, inner: &mut Inner<L>, ticket: u64)
         requires of { IsAt self.now inner.old }
         requires waiting { inner.old.me.0.stage ≡ Waiting ticket }
@@ -62,11 +63,17 @@ impl<L: Kept> LaneLock<L> {
         ensures of { IsAt self.now inner.new }
         ensures took { Took L.meaning ticket inner.old.me.0 inner.new.me }
     {
+        let mut looks = 0u8;
         for _ in rt.forever() {
             if self.table.shared.load::<Look>(inner, 1) == ticket {
                 return;
             }
-            thread::yield_now();
+            looks = looks.wrapping_add(1);
+            if looks == 0 {
+                thread::yield_now();
+            } else {
+                spin_loop();
+            }
         }
         unreachable!()
     }

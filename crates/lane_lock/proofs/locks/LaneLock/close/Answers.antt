@@ -22,4 +22,4 @@ returns-clause-weighs g c =
     let seat = c.args.seat in
     let t = closes g.L.Kept.meaning c.args.self.table.shared.key g.L.Kept.later_opening seat.inner.id seat.inner.me.0 _ _ seat.resting c.requires.all c.close_with-closed.ensures.values.2 in
     weighs g.L.Kept.meaning c.args.self.table.shared.key seat.inner.me.0 _
-      (subst (λ l. IsGrown g.L.Kept.meaning c.args.self.table.shared.key seat.inner.me.0 l) (same_lane t.0 _ (some-injective _ _ (sym t.1 ∙ c.take-lane.ensures.value) ∙ c.in-Some.is)) t.2)
+    (subst (λ l. IsGrown g.L.Kept.meaning c.args.self.table.shared.key seat.inner.me.0 l) (same_lane t.0 _ (some-injective _ _ (sym t.1 ∙ c.take-lane.ensures.value) ∙ c.in-Some.is)) t.2)

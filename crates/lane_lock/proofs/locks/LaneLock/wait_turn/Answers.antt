@@ -12,4 +12,4 @@ pub returns-then-load-ticket-clause-took : goal.returns-then-load-ticket-clause-
 returns-then-load-ticket-clause-took g c =
     let e = c.loop.invariant.1 in
     subst (λ x. Took g.L.Kept.meaning c.args.ticket x.0 c.load.new.seat.me) e
-      ((c.load.ensures.2 c.args.ticket (ap (λ x. x.0.stage) e ∙ c.requires.waiting)).1 c.if-load-ticket.true)
+    ((c.load.ensures.2 c.args.ticket (ap (λ x. x.0.stage) e ∙ c.requires.waiting)).1 c.if-load-ticket.true)
