@@ -8,3 +8,4 @@ pub mod Sharing
 pub mod Closing
 pub mod Carried
 pub mod Opening
+pub mod Trials

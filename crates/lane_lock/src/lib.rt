@@ -19,3 +19,6 @@ pub use locks::LaneLock;
 pub use plays::LaneRule;
 pub use seats::{Held, Seat};
 pub use views::{Key, Known, Part, Sight, Stage, View};
+
+#[cfg(test)]
+mod tests;

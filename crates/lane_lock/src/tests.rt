@@ -1,8 +1,8 @@
 // A lane in memory under the lock, with threads that take it in turn.
-ghost use Rattle.std.specs.Prelude.{◌≡◌, ℕ, ◌+◌, ◌<◌, ◌≤◌, refl, ◌∷◌, ◌++◌, All, IfOk, None, slice_index_or, vec_len};
+ghost use Rattle.std.specs.Prelude.{◌≡◌, ℕ, ◌+◌, ◌<◌, ◌≤◌, ◌⊎◌, refl, [], ◌∷◌, ◌++◌, All, IfOk, None, slice_index_or, vec_len};
 ghost use Rattle.ota_core.specs.Entry.{by_of};
 ghost use mathlib.Core.Path.{◌∙◌};
-ghost use Rattle.lane_lock.specs.Numbers.{total, Each, Begins, behind};
+ghost use Rattle.lane_lock.specs.Numbers.{total};
 ghost use Rattle.lane_lock.specs.Views.{numbered};
 ghost use Rattle.lane_lock.specs.Locks.{view_of, number_of, IsOf};
 
@@ -23,16 +23,18 @@ struct Row {
 
 impl Kept for Row {
     type Opening = u32;
+
     type Entry = Entry;
+
     type End = u32;
 
     ghost meaning = { record {
-        opening = λ row. row.number;
-        entries = λ row. row.entries.items;
-        number_of = by_of;
-        ending = λ row. None;
-        at_home = λ pace row. Unit {0};
-        later = λ a b. b.number ≡ a.number;
+      opening = λ row. row.number;
+      entries = λ row. row.entries.items;
+      number_of = by_of;
+      ending = λ row. None;
+      at_home = λ pace row. Unit {0};
+      later = λ a b. b.number ≡ a.number;
     } };
 
     ghost later_itself = { λ a. refl };
@@ -43,16 +45,15 @@ impl Kept for Row {
 }
 
 impl Row {
-    // Adds an entry, if there is memory.
+    // Adds an entry, if there is room.
     fn add(&mut self, entry: Entry)
         ensures same { self.new.number ≡ self.old.number }
-        ensures begins { Begins self.old.entries.items self.new.entries.items }
-        ensures by { Each (λ e. by_of e ≡ by_of entry) (behind self.old.entries.items self.new.entries.items) }
+        ensures entries { (self.new.entries.items ≡ self.old.entries.items) ⊎ (self.new.entries.items ≡ self.old.entries.items ++ entry ∷ []) }
     {
-        match self.entries.push(entry) {
-            Ok(()) => {}
-            Err(_) => {}
+        if self.entries.len() >= self.entries.capacity() {
+            return;
         }
+        self.entries.push_reserved(entry);
     }
 
     // How many entries were made under the number.
@@ -141,15 +142,17 @@ fn closed<R: Threads + Wait + Sync>(
     seats: u32,
     holds: u32,
 ) -> Result<Row, AllocError>
-    requires { (1 ≤ seats) × (seats ≤ 64) }
+    requires seats { (1 ≤ seats) × (seats ≤ 64) }
 {
     let row = Row {
         number: 3,
-        entries: Vec::new(alloc),
+        entries: Vec::with_capacity(alloc, seats as usize * holds as usize)?,
     };
-    let Ok((lock, seats)) = LaneLock::new(alloc, row, 1, seats) else {
-        return Err(AllocError);
+    let made = match LaneLock::new(alloc, row, 1, seats) {
+        Ok(made) => made,
+        Err(_) => return Err(AllocError),
     };
+    let (lock, seats) = made;
     let mut seats = all_add(rt, &lock, seats, holds)?;
     let Some(first) = seats.pop() else {
         return Err(AllocError);
