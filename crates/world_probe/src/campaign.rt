@@ -108,7 +108,10 @@ fn run(alloc: Global, jobs: u32) -> Result<(World, u64)> {
         keyset: keyset(),
         facts: facts()?,
     };
-    let first = vec![in alloc; Event::Begin(Batch::new(vec![in alloc; open]?)), Event::Seal]?;
+    let first = vec![in alloc;
+        Event::Begin(Batch::new(vec![in alloc; open]?)),
+        Event::Seal,
+    ]?;
     let mut taken = take(&mut world, first.as_slice())?;
     for job in 1..=jobs {
         let events = job_events(alloc, job)?;

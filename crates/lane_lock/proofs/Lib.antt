@@ -1,0 +1,11 @@
+pub mod Counting
+pub mod Sights
+pub mod Still
+pub mod Drawing
+pub mod Looking
+pub mod Passing
+pub mod Sharing
+pub mod Closing
+pub mod Carried
+pub mod Opening
+pub mod Trials
