@@ -290,18 +290,18 @@ fn stops(alloc: Global, call: u64, length: u64, entries: usize) -> Result<bool, 
     Ok(goes_on && is_last && ended(&lanes[1], length, entries, end))
 }
 
-// An opening makes the calls sync, len and read, and len and read, and adds the mark of version 2 as an addition does: by
-// write, sync, write and sync.
+// An opening makes the calls sync, len and read, and adds the mark of version 2 as an addition does: by write, sync, write
+// and sync.
 #[test]
 fn a_lane_whose_disk_fails_stops_alone(rt: HostRuntime) -> Result<(), Fail> {
     let alloc = rt.alloc();
-    for call in 10..14 {
+    for call in 8..12 {
         assert!(rt; stops(alloc, call, 22, 0)?);
     }
-    for call in 14..18 {
+    for call in 12..16 {
         assert!(rt; stops(alloc, call, 94, 1)?);
     }
-    for call in 18..22 {
+    for call in 16..20 {
         assert!(rt; stops(alloc, call, 164, 2)?);
     }
     Ok(())

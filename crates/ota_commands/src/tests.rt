@@ -608,7 +608,7 @@ fn a_full_sink_has_the_front_of_the_text(rt: HostRuntime) -> Result<(), Fail> {
             EMPTY,
             Some(Fault::SinkFault),
             "job,card,k",
-            136
+            164
         )?
     );
     Ok(())
