@@ -61,8 +61,12 @@ entry_long (Open by moment keyset facts) =
     omega (arith, front_long 0x01 by moment keyset, length-append (front_octets Second 0x01 by moment keyset) (facts_octets facts))
 entry_long (Reserve by moment keyset counter job tar name body) =
     let front = front_octets Second 0x02 by moment keyset in
-    omega (arith, front_long 0x02 by moment keyset, length-append front (five counter ++ (job_octets job ++ (tar ++ (name_octets Second name ++ body)))),
-    ap length (six_parts front (five counter) (job_octets job) tar (name_octets Second name) body))
+    omega (
+      arith,
+      front_long 0x02 by moment keyset,
+      length-append front (five counter ++ (job_octets job ++ (tar ++ (name_octets Second name ++ body)))),
+      ap length (six_parts front (five counter) (job_octets job) tar (name_octets Second name) body),
+    )
 entry_long (Done by moment keyset counter answer) =
     let front = front_octets Second 0x03 by moment keyset in
     omega (arith, front_long 0x03 by moment keyset, length-append front (five counter ++ answer), ap length (three_parts front (five counter) answer))

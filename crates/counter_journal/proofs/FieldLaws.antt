@@ -288,8 +288,7 @@ purpose_takes bytes purpose rest fits e =
     let t1 = job_takes a.0.1 b.0.0 b.0.1 t0.0.rest_fits b.1 in
     let t2 = tar_takes b.0.1 c.0.0 c.0.1 t1.0.rest_fits c.1 in
     subst (λ (x : Purpose × List ℕ). (bytes ≡ five x.0.counter ++ (job_octets x.0.job ++ (x.0.tar ++ x.1))) × IsBytes x.1 × ArePurpose x.0)
-    (some_is (purpose_of a.0.0 b.0.0 c.0.0, c.0.1) (purpose, rest) c.2)
-    (
+    (some_is (purpose_of a.0.0 b.0.0 c.0.0, c.0.1) (purpose, rest) c.2) (
       t0.0.parts ∙ ap (λ (l : List ℕ). five a.0.0 ++ l) (t1.0.parts ∙ ap (λ (l : List ℕ). job_octets b.0.0 ++ l) t2.0.parts),
       t2.0.rest_fits,
       record { counter_fits = t0.1; job_fits = t1.1; tar_long = t2.1 },

@@ -91,11 +91,10 @@ taken_by lane lanes old new part First true was is said history book second =
     inl (subst (λ (v : Version). IsFirstMark v part) (sym was) is, ap (λ h. h.entries) history, second)
 taken_by lane lanes old new part First false was is said history book second = absurd (not_both (sym said))
 taken_by lane lanes old new part Second true was is said history book second = absurd (not_both said)
-taken_by lane lanes old new part Second false was is said history book second =
-    (
-      subst (λ (v : Version). IsBad lane lanes old.history.entries v part) (sym was) (second_mark lane lanes old.history.entries part is),
-      same_past old new history book (second ∙ sym was),
-    )
+taken_by lane lanes old new part Second false was is said history book second = (
+  subst (λ (v : Version). IsBad lane lanes old.history.entries v part) (sym was) (second_mark lane lanes old.history.entries part is),
+  same_past old new history book (second ∙ sym was),
+)
 
 -- the mark is taken where none stands before it
 pub mark_taken : (lane lanes : ℕ) (old new : Past) (part : List ℕ) (taken : Bool) → is_mark part ≡ true → IsMarkTaken old taken new → IsTaken lane lanes old part taken new

@@ -357,5 +357,8 @@ pub wanting_cut : {D B C T : Type 0} (told : Meaning D B C) (old mid new : D) (l
 wanting_cut told old mid new lane lanes len past (Ok value) read want stays = tt
 wanting_cut {T = T} told old mid new lane lanes len past (Err error) read want stays =
     unless_wanting T error (IsCutAtMost (journal_head lane lanes) (told.seen old) (told.seen new)) want
-    (λ is. inr (len, subst (λ d. IsOpened (journal_head lane lanes) (told.seen old) (told.seen d) len) (sym (stays (ap Err is)))
-    (record { parts = read.parts; behind = read.was.0; was = read.was.1; is = read.is; cut = read.cut; long = read.long })))
+    (λ is. inr (
+      len,
+      subst (λ d. IsOpened (journal_head lane lanes) (told.seen old) (told.seen d) len) (sym (stays (ap Err is)))
+          (record { parts = read.parts; behind = read.was.0; was = read.was.1; is = read.is; cut = read.cut; long = read.long }),
+    ))

@@ -231,7 +231,7 @@ next_written Second First entries first parts part rest fit_a fit_b all some =
     })
 next_written Second Second entries first parts part rest fit_a fit_b all some =
     let same = same_front all.front some.front (parts_in Second all.rest) (parts_in Second some.rest ++ part ∷ rest) (front_are entries (parts ++ part ∷ rest) all fit_a) (front_are first parts some fit_b)
-        (sym all.spelled ∙ ap (λ (p : List (List ℕ)). p ++ part ∷ rest) some.spelled ∙ append_assoc (parts_in First some.front) (MARK ∷ parts_in Second some.rest) (part ∷ rest)) in
+    (sym all.spelled ∙ ap (λ (p : List (List ℕ)). p ++ part ∷ rest) some.spelled ∙ append_assoc (parts_in First some.front) (MARK ∷ parts_in Second some.rest) (part ∷ rest)) in
     let found = behind_first Second all.rest some.rest part rest (rest_are entries (parts ++ part ∷ rest) all fit_a) (rest_are first parts some fit_b) same.1 in
     inr (record {
       entry = found.entry;

@@ -53,7 +53,7 @@ pub struct Journal {
 
 impl Model for Journal {
     ghost use Rattle.counter_journal.specs.JournalOpening.{IsBeforeOrOpened, IsOpenedTo, IsCutAtMost, IsGoingOn};
-ghost use Rattle.counter_journal.specs.JournalReading.{JournalValue};
+    ghost use Rattle.counter_journal.specs.JournalReading.{JournalValue};
     ghost use Rattle.counter_journal.specs.JournalKept.{IsJournalKept};
 
     ghost Value = { JournalValue };

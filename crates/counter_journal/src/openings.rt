@@ -111,7 +111,15 @@ fn read_past<D: DiskCalls>(
     let mut past = no_past(alloc);
     let mut wrong = None;
     while reader.next_part(disk)? {
-        wrong = take_part(alloc, &mut past, wrong, reader.part(), reader.given(), lane, lanes)?;
+        wrong = take_part(
+            alloc,
+            &mut past,
+            wrong,
+            reader.part(),
+            reader.given(),
+            lane,
+            lanes,
+        )?;
     }
     Ok(LogRead { past, wrong })
 }

@@ -293,7 +293,9 @@ fn have_same(one: &Entry, other: &Entry) -> bool {
             _ => false,
         },
         Entry::Done {
-            counter, answer, ..
+            counter,
+            answer,
+            ..
         } => match other {
             Entry::Done {
                 counter: c,
@@ -303,7 +305,9 @@ fn have_same(one: &Entry, other: &Entry) -> bool {
             _ => false,
         },
         Entry::Refused {
-            counter, status, ..
+            counter,
+            status,
+            ..
         } => match other {
             Entry::Refused {
                 counter: c,
@@ -487,7 +491,13 @@ fn entries_are_read_back(rt: HostRuntime) -> Result<(), Fail> {
     assert!(rt; reads(alloc, &[MARK, OPEN_2, RESERVE_2, DONE_2], &answered)?);
     let settled = vec![in alloc; opened()?, reserved(alloc, 1)?, refused(), closed()]?;
     assert!(rt; reads(alloc, &[OPEN, RESERVE, REFUSED, CLOSE], &settled)?);
-    assert!(rt; reads(alloc, &[OPEN, MARK, RESERVE_2, REFUSED_2, CLOSE_2], &settled)?);
+    assert!(rt;
+        reads(
+            alloc,
+            &[OPEN, MARK, RESERVE_2, REFUSED_2, CLOSE_2],
+            &settled
+        )?
+    );
     let spring = named(alloc, 2, 0x0102_0304_0506_0708, b"spring")?;
     let later = vec![in alloc; opened()?, reserved(alloc, 1)?, spring]?;
     assert!(rt; reads(alloc, &[OPEN, RESERVE, MARK, NAMED_2], &later)?);
@@ -652,7 +662,10 @@ fn what_is_no_name_is_named(rt: HostRuntime) -> Result<(), Fail> {
 
 /// What an opening answers to the first octets of the journal of version 1 with the three entries.
 fn prefix_answer(alloc: Global, octets: &[u8], count: usize) -> Result<Option<LogErr>, Fail> {
-    let mut disk = MemDisk::of(alloc, octets.get(..count).ok_or("so many octets are there")?)?;
+    let mut disk = MemDisk::of(
+        alloc,
+        octets.get(..count).ok_or("so many octets are there")?,
+    )?;
     Ok(Journal::open(alloc, &mut disk, 0, 1).err())
 }
 

@@ -7,7 +7,7 @@ use Rattle.counter_journal.proofs.openings.open_log.Goals as goal
 
 abbrev all_err : (g : _) (c : goal.After-drop-read-in_err-log-3 g) → Tells g.D.DiskCalls.told c.args.disk.now
     → IsFinished (g.D.DiskCalls.told.seen c.read_past.new.disk) (g.D.DiskCalls.told.seen c.args.disk.now) (g.D.DiskCalls.told.seen c.finish-finished.new.disk) c.args.lane c.args.lanes
-        c.head_of.result c.read_past.new.reader c.in_ok-read.read c.finish-finished.result
+    c.head_of.result c.read_past.new.reader c.in_ok-read.read c.finish-finished.result
 all_err g c tells =
     let told = g.D.DiskCalls.told in
     let begun = c.in_ok-reader.ensures in
@@ -46,7 +46,7 @@ returns-in_err-log-clause-moments g c = λ tells.
 
 abbrev all_ok : (g : _) (c : goal.In_ok-log g) → Tells g.D.DiskCalls.told c.args.disk.now
     → IsFinished (g.D.DiskCalls.told.seen c.read_past.new.disk) (g.D.DiskCalls.told.seen c.args.disk.now) (g.D.DiskCalls.told.seen c.finish-finished.new.disk) c.args.lane c.args.lanes
-        c.head_of.result c.read_past.new.reader c.in_ok-read.read c.finish-finished.result
+    c.head_of.result c.read_past.new.reader c.in_ok-read.read c.finish-finished.result
 all_ok g c tells =
     let told = g.D.DiskCalls.told in
     let begun = c.in_ok-reader.ensures in

@@ -16,19 +16,21 @@ loop-past-preserved g c =
     let inv = c.loop-past.invariant in
     let e = c.in_ok-next_part.ensures in
     let lane = c.args.lane in
-    let lanes = c.args.lanes in
-    (looked_on told counts old mid new inv.0 e.tells e.cause.answer e.content e.moments, c.in_ok-wrong.ensures.kept,
-        λ tells head reading.
-        let so_far = inv.2 tells head reading in
-        let on : IsReading head (told.seen old) (so_far.parts ++ c.next_part.new.self.part ∷ []) c.next_part.new.self =
-        rw c.if-branch.true at (turn_seen told counts old mid new inv.0 tells e.content c.loop-past.reader c.next_part.new.self c.in_ok-next_part.field-0 e.reading head so_far.parts so_far.reading) in
-        let number = c.given.ensures ∙ part_number head (told.seen old) so_far.parts c.next_part.new.self.part c.next_part.new.self on in
-        let read = c.in_ok-wrong.ensures.read so_far.parts so_far.read number in
-        record {
-          parts = so_far.parts ++ c.next_part.new.self.part ∷ [];
-          reading = on;
-          read = subst (λ (p : List ℕ). IsReadSoFar lane lanes (so_far.parts ++ p ∷ []) c.take_part.new.past c.in_ok-wrong.wrong) c.part.ensures read;
-        })
+    let lanes = c.args.lanes in (
+      looked_on told counts old mid new inv.0 e.tells e.cause.answer e.content e.moments,
+      c.in_ok-wrong.ensures.kept,
+      λ tells head reading.
+          let so_far = inv.2 tells head reading in
+          let on : IsReading head (told.seen old) (so_far.parts ++ c.next_part.new.self.part ∷ []) c.next_part.new.self =
+          rw c.if-branch.true at (turn_seen told counts old mid new inv.0 tells e.content c.loop-past.reader c.next_part.new.self c.in_ok-next_part.field-0 e.reading head so_far.parts so_far.reading) in
+          let number = c.given.ensures ∙ part_number head (told.seen old) so_far.parts c.next_part.new.self.part c.next_part.new.self on in
+          let read = c.in_ok-wrong.ensures.read so_far.parts so_far.read number in
+          record {
+            parts = so_far.parts ++ c.next_part.new.self.part ∷ [];
+            reading = on;
+            read = subst (λ (p : List ℕ). IsReadSoFar lane lanes (so_far.parts ++ p ∷ []) c.take_part.new.past c.in_ok-wrong.wrong) c.part.ensures read;
+          },
+    )
 
 pub returns-clause-read : goal.returns-clause-read
 returns-clause-read g c = λ tells head reading.

@@ -11,7 +11,7 @@ abbrev pub invariant-loop-past : goal.invariant-loop-past
 invariant-loop-past g l =
     HasLooked g.D.DiskCalls.told g.D.DiskCalls.counts l.fn.disk l.disk × IsKeptPast l.fn.lane l.fn.lanes l.past
     × (Tells g.D.DiskCalls.told l.fn.disk → (head : List ℕ) → IsReading head (g.D.DiskCalls.told.seen l.fn.disk) [] l.fn.reader
-        → SoFar head (g.D.DiskCalls.told.seen l.fn.disk) l.fn.lane l.fn.lanes l.past l.wrong l.reader)
+    → SoFar head (g.D.DiskCalls.told.seen l.fn.disk) l.fn.lane l.fn.lanes l.past l.wrong l.reader)
 
 abbrev pub decreases-loop-past : goal.decreases-loop-past
 decreases-loop-past g l = octets_left l.reader
