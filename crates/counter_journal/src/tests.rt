@@ -361,7 +361,6 @@ fn added<D: DiskCalls>(alloc: Global, disk: &mut D, entry: Entry) -> Result<u64,
     requires of_lane { IsOfLane 0 1 entry }
 {
     let mut journal = Journal::open(alloc, disk, 0, 1)?;
-    journal.make_room(1)?;
     if journal.history().may_add(&entry).is_err() {
         return Err(LogErr::Damaged(0));
     }
@@ -415,8 +414,9 @@ fn a_journal_without_entries_opens(rt: HostRuntime) -> Result<(), Fail> {
     let alloc = rt.alloc();
     let mut disk = MemDisk::of(alloc, &EMPTY)?;
     let opened = Journal::open(alloc, &mut disk, 0, 1);
-    let journal = opened.ok().ok_or("these are the octets of a journal")?;
+    let mut journal = opened.ok().ok_or("these are the octets of a journal")?;
     assert_eq!(rt; journal.length(), 22);
+    assert!(rt; journal.make_room(16).is_ok());
     assert!(rt; journal.history().entries().is_empty());
     assert!(rt; disk.content() == EMPTY_MARKED.as_slice());
     Ok(())
