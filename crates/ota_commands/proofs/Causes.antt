@@ -62,9 +62,9 @@ module _ {D B C : Type 0} (told : Meaning D B C) (counts : D → Counts) (seen :
   jobs_cause Memory plan command said comes = tt
   jobs_cause _ plan command said comes = absurd comes
 
-  input_cause : (fault : Fault) → reads seen.command ≡ true → ReadFails seen.plan seen.jobs fault → Comes told counts seen fault
-  input_cause fault command (inl comes) = plan_cause fault command comes
-  input_cause fault command (inr comes) = jobs_cause fault comes.0 command comes.1 comes.2
+  input_cause : {S : Type 0} (jobs_old jobs_new : S) (fault : Fault) → reads seen.command ≡ true → ReadFails seen.plan seen.jobs jobs_old jobs_new fault → Comes told counts seen fault
+  input_cause jobs_old jobs_new fault command (inl failed) = plan_cause fault command failed.0
+  input_cause jobs_old jobs_new fault command (inr comes) = jobs_cause fault comes.0 command comes.1 comes.2
 
   -- ---- the sites
 
@@ -262,8 +262,8 @@ module _ {D B C K S : Type 0} (told : Meaning D B C) (counts : D → Counts) (si
   of_stop : (read : AreRead seen) → HasStopped told counts read.plan read.jobs olds news sink_old sink_new fault ends → Causes
   of_stop read stopped = caused stopped.reason stopped.fault_is (stop_comes read stopped.reason stopped.stops)
 
-  of_reserve : command ≡ Some Reserve → HasRunReserve told counts sink_tells written sink_faults seen.plan seen.jobs olds news sink_old sink_new fault ends → Causes
-  of_reserve is (inl failed) = caused failed.reason failed.fault_is (input_cause told counts seen failed.reason (ap reads is) failed.fails)
+  of_reserve : command ≡ Some Reserve → HasRunReserve told counts sink_tells written sink_faults seen.plan seen.jobs jobs_old jobs_new olds news sink_old sink_new fault ends → Causes
+  of_reserve is (inl failed) = caused failed.reason failed.fault_is (input_cause told counts seen jobs_old jobs_new failed.reason (ap reads is) failed.fails)
   of_reserve is (inr read) = of read.run
     where
       as_read : AreRead seen
@@ -275,8 +275,8 @@ module _ {D B C K S : Type 0} (told : Meaning D B C) (counts : D → Counts) (si
           ends_cause told counts seen read.plan read.jobs reserved.opens reserved.opened reserved.added.lanes is as_read reserved.begins.are_opened reserved.added.passed ends reserved.added.output fault
           reserved.added.ends_are reserved.added.cause reserved.added.fault_is
 
-  of_packet : command ≡ Some Packet → HasRunPacket told counts sink_tells written sink_faults seen.plan seen.jobs olds news sink_old sink_new fault ends → Causes
-  of_packet is (inl failed) = caused failed.reason failed.fault_is (input_cause told counts seen failed.reason (ap reads is) failed.fails)
+  of_packet : command ≡ Some Packet → HasRunPacket told counts sink_tells written sink_faults seen.plan seen.jobs jobs_old jobs_new olds news sink_old sink_new fault ends → Causes
+  of_packet is (inl failed) = caused failed.reason failed.fault_is (input_cause told counts seen jobs_old jobs_new failed.reason (ap reads is) failed.fails)
   of_packet is (inr read) = of read.run
     where
       as_read : AreRead seen

@@ -5,3 +5,4 @@ pub mod NineWords
 pub mod RowLaws
 pub mod Sound
 pub mod WrittenBack
+mod Untouched

@@ -51,9 +51,9 @@ module _ {D B C : Type 0} (told : Meaning D B C) (counts : D → Counts) (seen_i
     of_stop plan jobs reason (inl refused) = opening_sound told counts seen_is_image olds news refused.error refused.refused sound
     of_stop plan jobs reason (inr differs) = opened_sound told counts seen_is_image olds news differs.opened differs.are_opened sound
 
-    of_reserve : (plan_input jobs_input : Input) → HasRunReserve told counts sink_tells written sink_faults plan_input jobs_input olds news sink_old sink_new fault ends → StaySound told olds news
-    of_reserve plan_input jobs_input (inl failed) = untouched_sound failed.sites
-    of_reserve plan_input jobs_input (inr read) = of read.run
+    of_reserve : {S : Type 0} (plan_input jobs_input : Input) (jobs_old jobs_new : S) → HasRunReserve told counts sink_tells written sink_faults plan_input jobs_input jobs_old jobs_new olds news sink_old sink_new fault ends → StaySound told olds news
+    of_reserve plan_input jobs_input jobs_old jobs_new (inl failed) = untouched_sound failed.sites
+    of_reserve plan_input jobs_input jobs_old jobs_new (inr read) = of read.run
       where
         of : (HasStopped told counts read.plan read.jobs olds news sink_old sink_new fault ends ⊎ HasReserved told counts sink_tells written sink_faults read.plan read.jobs olds news sink_old sink_new fault ends) → StaySound told olds news
         of (inl stopped) = of_stop read.plan read.jobs stopped.reason stopped.stops
@@ -61,9 +61,9 @@ module _ {D B C : Type 0} (told : Meaning D B C) (counts : D → Counts) (seen_i
             session_sound told counts seen_is_image read.plan read.jobs olds reserved.opens news reserved.opened reserved.added.lanes reserved.begins.are_opened reserved.added.passed reserved.begins.distinct
             reserved.begins.agree sound
 
-    of_packet : (plan_input jobs_input : Input) → HasRunPacket told counts sink_tells written sink_faults plan_input jobs_input olds news sink_old sink_new fault ends → StaySound told olds news
-    of_packet plan_input jobs_input (inl failed) = untouched_sound failed.sites
-    of_packet plan_input jobs_input (inr read) = of read.run
+    of_packet : {S : Type 0} (plan_input jobs_input : Input) (jobs_old jobs_new : S) → HasRunPacket told counts sink_tells written sink_faults plan_input jobs_input jobs_old jobs_new olds news sink_old sink_new fault ends → StaySound told olds news
+    of_packet plan_input jobs_input jobs_old jobs_new (inl failed) = untouched_sound failed.sites
+    of_packet plan_input jobs_input jobs_old jobs_new (inr read) = of read.run
       where
         of : (HasStopped told counts read.plan read.jobs olds news sink_old sink_new fault ends ⊎ HasShown told counts sink_tells written sink_faults read.plan read.jobs olds news sink_old sink_new fault ends) → StaySound told olds news
         of (inl stopped) = of_stop read.plan read.jobs stopped.reason stopped.stops
@@ -82,8 +82,8 @@ module _ {D B C : Type 0} (told : Meaning D B C) (counts : D → Counts) (seen_i
     pub course_sound : IsCourse told counts sink_tells written sink_faults source_tells left source_faults command olds news plan_old plan_new jobs_old jobs_new sink_old sink_new fault ends → StaySound told olds news
     course_sound (inl did) = untouched_sound did.sites
     course_sound (inr (inl ran)) = of_format sink_tells written sink_faults sink_old sink_new fault ends ran.run
-    course_sound (inr (inr (inl ran))) = of_reserve sink_tells written sink_faults sink_old sink_new fault ends _ _ ran.run
-    course_sound (inr (inr (inr ran))) = of_packet sink_tells written sink_faults sink_old sink_new fault ends _ _ ran.run
+    course_sound (inr (inr (inl ran))) = of_reserve sink_tells written sink_faults sink_old sink_new fault ends _ _ jobs_old jobs_new ran.run
+    course_sound (inr (inr (inr ran))) = of_packet sink_tells written sink_faults sink_old sink_new fault ends _ _ jobs_old jobs_new ran.run
 
     pub course_open : IsCourse told counts sink_tells written sink_faults source_tells left source_faults command olds news plan_old plan_new jobs_old jobs_new sink_old sink_new fault ends
         → command ≡ Some Format → fault ≡ None → AllOpen told news

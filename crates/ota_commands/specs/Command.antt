@@ -29,10 +29,10 @@ use Rattle.ota_commands.specs.declared.faults.Fault.TheVariants.{Usage, Memory}
 abbrev pub NoneEnded : {D : Type 0} → List D → List (Option Fault) → Type 0
 NoneEnded sites ends = ends ≡ replicate (length sites) None
 
--- the inputs couldn't be read: the plan, or the jobs behind a plan that was read
-abbrev pub ReadFails : Input → Input → Fault → Type 0
-ReadFails plan_input jobs_input fault =
-    ReadFaultComes which.Plan plan_reading plan_input fault
+-- the inputs couldn't be read: the plan, and then the jobs are untouched; or the jobs behind a plan that was read
+abbrev pub ReadFails : {S : Type 0} → Input → Input → S → S → Fault → Type 0
+ReadFails plan_input jobs_input jobs_old jobs_new fault =
+    (ReadFaultComes which.Plan plan_reading plan_input fault × (jobs_new ≡ jobs_old))
     ⊎ ((plan : Plan) × Says plan_reading plan_input plan × ReadFaultComes which.Jobs (jobs_reading plan) jobs_input fault)
 
 -- Nothing was done. Either the words say no command for so many sites; or memory was wanting for the ends of the lanes,
@@ -48,9 +48,9 @@ pub record DidNothing {D S K : Type 0} (command : Option Command) (olds news : L
 -- ---- what the commands that read a plan and jobs have in common
 
 -- The inputs couldn't be read. No site was called, and nothing was written.
-pub record HasNotRead {D K : Type 0} (plan_input jobs_input : Input) (olds news : List D) (sink_old sink_new : K) (fault : Option Fault) (ends : List (Option Fault)) : Type 0 where
+pub record HasNotRead {D S K : Type 0} (plan_input jobs_input : Input) (jobs_old jobs_new : S) (olds news : List D) (sink_old sink_new : K) (fault : Option Fault) (ends : List (Option Fault)) : Type 0 where
   pub reason : Fault
-  pub fails : ReadFails plan_input jobs_input reason
+  pub fails : ReadFails plan_input jobs_input jobs_old jobs_new reason
   pub fault_is : fault ≡ Some reason
   pub sites : news ≡ olds
   pub unwritten : sink_new ≡ sink_old
@@ -145,14 +145,14 @@ module _ {D B C K : Type 0} (told : Meaning D B C) (counts : D → Counts) (sink
     pub begins : Agree told counts plan jobs olds opens opened
     pub added : HasAdded plan jobs opens news opened sink_old sink_new fault ends
 
-  abbrev pub HasRunReserve : Input → Input → List D → List D → K → K → Option Fault → List (Option Fault) → Type 0
-  HasRunReserve plan_input jobs_input olds news sink_old sink_new fault ends =
-      HasNotRead plan_input jobs_input olds news sink_old sink_new fault ends
+  abbrev pub HasRunReserve : {S : Type 0} → Input → Input → S → S → List D → List D → K → K → Option Fault → List (Option Fault) → Type 0
+  HasRunReserve plan_input jobs_input jobs_old jobs_new olds news sink_old sink_new fault ends =
+      HasNotRead plan_input jobs_input jobs_old jobs_new olds news sink_old sink_new fault ends
       ⊎ HasRead plan_input jobs_input (λ plan jobs. HasStopped told counts plan jobs olds news sink_old sink_new fault ends ⊎ HasReserved plan jobs olds news sink_old sink_new fault ends)
 
-  pub record RanReserve (command : Option Command) (plan_input jobs_input : Input) (olds news : List D) (sink_old sink_new : K) (fault : Option Fault) (ends : List (Option Fault)) : Type 0 where
+  pub record RanReserve {S : Type 0} (command : Option Command) (plan_input jobs_input : Input) (jobs_old jobs_new : S) (olds news : List D) (sink_old sink_new : K) (fault : Option Fault) (ends : List (Option Fault)) : Type 0 where
     pub command_is : command ≡ Some Reserve
-    pub run : HasRunReserve plan_input jobs_input olds news sink_old sink_new fault ends
+    pub run : HasRunReserve plan_input jobs_input jobs_old jobs_new olds news sink_old sink_new fault ends
 
   -- ---- the messages
 
@@ -166,14 +166,14 @@ module _ {D B C K : Type 0} (told : Meaning D B C) (counts : D → Counts) (sink
     pub fault_is : fault ≡ answer_of output None
     pub not_ended : NoneEnded olds ends
 
-  abbrev pub HasRunPacket : Input → Input → List D → List D → K → K → Option Fault → List (Option Fault) → Type 0
-  HasRunPacket plan_input jobs_input olds news sink_old sink_new fault ends =
-      HasNotRead plan_input jobs_input olds news sink_old sink_new fault ends
+  abbrev pub HasRunPacket : {S : Type 0} → Input → Input → S → S → List D → List D → K → K → Option Fault → List (Option Fault) → Type 0
+  HasRunPacket plan_input jobs_input jobs_old jobs_new olds news sink_old sink_new fault ends =
+      HasNotRead plan_input jobs_input jobs_old jobs_new olds news sink_old sink_new fault ends
       ⊎ HasRead plan_input jobs_input (λ plan jobs. HasStopped told counts plan jobs olds news sink_old sink_new fault ends ⊎ HasShown plan jobs olds news sink_old sink_new fault ends)
 
-  pub record RanPacket (command : Option Command) (plan_input jobs_input : Input) (olds news : List D) (sink_old sink_new : K) (fault : Option Fault) (ends : List (Option Fault)) : Type 0 where
+  pub record RanPacket {S : Type 0} (command : Option Command) (plan_input jobs_input : Input) (jobs_old jobs_new : S) (olds news : List D) (sink_old sink_new : K) (fault : Option Fault) (ends : List (Option Fault)) : Type 0 where
     pub command_is : command ≡ Some Packet
-    pub run : HasRunPacket plan_input jobs_input olds news sink_old sink_new fault ends
+    pub run : HasRunPacket plan_input jobs_input jobs_old jobs_new olds news sink_old sink_new fault ends
 
 -- ---- the course of a command
 
@@ -184,7 +184,7 @@ module _ {D B C K S : Type 0} (told : Meaning D B C) (counts : D → Counts) (si
   IsCourse command olds news plan_old plan_new jobs_old jobs_new sink_old sink_new fault ends =
       DidNothing command olds news plan_old plan_new jobs_old jobs_new sink_old sink_new fault ends
       ⊎ RanFormat told counts sink_tells written sink_faults command olds news plan_old plan_new jobs_old jobs_new sink_old sink_new fault ends
-      ⊎ RanReserve told counts sink_tells written sink_faults command (source_input source_tells left source_faults plan_old plan_new) (source_input source_tells left source_faults jobs_old jobs_new)
+      ⊎ RanReserve told counts sink_tells written sink_faults command (source_input source_tells left source_faults plan_old plan_new) (source_input source_tells left source_faults jobs_old jobs_new) jobs_old jobs_new
       olds news sink_old sink_new fault ends
-      ⊎ RanPacket told counts sink_tells written sink_faults command (source_input source_tells left source_faults plan_old plan_new) (source_input source_tells left source_faults jobs_old jobs_new)
+      ⊎ RanPacket told counts sink_tells written sink_faults command (source_input source_tells left source_faults plan_old plan_new) (source_input source_tells left source_faults jobs_old jobs_new) jobs_old jobs_new
       olds news sink_old sink_new fault ends

@@ -2,7 +2,7 @@
 use Rattle.std.specs.Prelude.{◌≡◌, ℕ, ◌<◌, ◌^◌, nat_le, Bool, IsTrue, if◌then◌else◌, Option, Some, None, IfSome, Result, Ok, Err, List, length, All}
 use Rattle.std.specs.Option.{ok_or}
 use Rattle.ota_io.specs.Calls.{HasRisen}
-use Rattle.ota_io.specs.Octets.{text_limit}
+use Rattle.ota_io.specs.Octets.{text_limit, TakesAtMost}
 use Rattle.ota_core.specs.declared.jobs.Job.{Job}
 use Rattle.plan_reader.specs.Jobs.{are_distinct}
 use Rattle.plan_reader.specs.NarrowPlan.{plan_of}
@@ -30,6 +30,10 @@ input_of tells octets before now = record { octets = if tells then Some octets e
 -- a source as an input
 abbrev pub source_input : {S : Type 0} → (S → Bool) → (S → List ℕ) → (S → ℕ) → S → S → Input
 source_input tells left faults old new = input_of (tells old) (left old) (faults old) (faults new)
+
+-- from a source that tells, at most one octet more than the greatest length of an input was taken
+abbrev pub IsReadWithin : {S : Type 0} → (S → Bool) → (S → List ℕ) → S → S → Type 0
+IsReadWithin tells left old new = IsTrue (tells old) → TakesAtMost 8388609 (left old) (left new)
 
 -- the text of an input, or that it is too long
 abbrev pub text_reading : Which → List ℕ → Result (List ℕ) Fault

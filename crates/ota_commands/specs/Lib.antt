@@ -1,4 +1,5 @@
 pub mod Fault
+pub mod Texts
 pub mod Words
 pub mod Inputs
 pub mod Writing

@@ -1,5 +1,8 @@
-ghost use Rattle.std.specs.Prelude.{◌≡◌};
+ghost use Rattle.std.specs.Prelude.{◌≡◌, Some, IfOk, ◌++◌, codes};
+ghost use Rattle.std.specs.Fmt.{decimal, DisplaysOnOk};
+ghost use Rattle.reports.specs.Report.{counter_text};
 ghost use Rattle.ota_commands.specs.Fault.{status_of};
+ghost use Rattle.ota_commands.specs.Texts.{keyset_text};
 
 use ota_core::{Counter, KeysetId};
 use plan_reader::{Column, Field, Table};
@@ -13,6 +16,11 @@ pub enum Which {
 }
 
 impl fmt::Display for Which {
+    ghost use Rattle.std.specs.Prelude.{Some};
+    ghost use Rattle.ota_commands.specs.Texts.{which_word};
+
+    ghost output = { λ which. Some (which_word which) };
+
     fn fmt<W: fmt::Write>(&self, f: &mut fmt::Formatter<W>) -> fmt::Result {
         match self {
             Which::Plan => f.write_str("plan"),
@@ -84,6 +92,11 @@ impl Fault {
 }
 
 impl fmt::Display for Fault {
+    ghost use Rattle.std.specs.Prelude.{Some};
+    ghost use Rattle.ota_commands.specs.Texts.{text_of};
+
+    ghost output = { λ fault. Some (text_of fault) };
+
     fn fmt<W: fmt::Write>(&self, f: &mut fmt::Formatter<W>) -> fmt::Result {
         match self {
             Fault::Usage => f.write_str(
@@ -95,7 +108,7 @@ impl fmt::Display for Fault {
             ),
             Fault::JobsRefused(row, column) => write!(f, "jobs refused: row {row} {column}"),
             Fault::InputTooLong(which) => write!(f, "input too long: {which}"),
-            Fault::JobDiffers(row, counter) => write_counter(f, *row, counter.0),
+            Fault::JobDiffers(row, counter) => write_counter(f, *row, *counter),
             Fault::KeysetDiffers(keyset) => write_keyset(f, "differs", keyset),
             Fault::KeysetClosed(keyset) => write_keyset(f, "closed", keyset),
             Fault::KeysetUnknown(keyset) => write_keyset(f, "unknown", keyset),
@@ -121,15 +134,35 @@ impl fmt::Display for Fault {
     }
 }
 
-fn write_counter<W: fmt::Write>(f: &mut fmt::Formatter<W>, row: u32, counter: u64) -> fmt::Result {
-    write!(f, "job differs: row {row} counter {counter:010x}")
+fn write_counter<W: fmt::Write>(
+    f: &mut fmt::Formatter<W>,
+    row: u32,
+    counter: Counter,
+) -> fmt::Result
+    ensures { DisplaysOnOk W.write_str_gives f.old result (Some (codes "job differs: row " ++ decimal row ++ codes " counter " ++ counter_text counter)) f.new }
+{
+    let digits = ten_digits(counter)?;
+    let text = str::from_utf8(&digits).map_err(|_| fmt::Error)?;
+    write!(f, "job differs: row {row} counter {text}")
+}
+
+/// The ten digits of a counter.
+#[tactic(auto, unfolding(reports::specs::Report::counter_text))]
+fn ten_digits(counter: Counter) -> Result<[u8; 10], fmt::Error>
+    ensures { IfOk result (λ digits. digits ≡ counter_text counter) }
+{
+    let mut digits = [0; 10];
+    hex::encode_to_slice(&counter.0.to_be_bytes()[3..], &mut digits).map_err(|_| fmt::Error)?;
+    Ok(digits)
 }
 
 fn write_keyset<W: fmt::Write>(
     f: &mut fmt::Formatter<W>,
     how: &str,
     keyset: &KeysetId,
-) -> fmt::Result {
+) -> fmt::Result
+    ensures { DisplaysOnOk W.write_str_gives f.old result (Some (keyset_text how.now keyset.now)) f.new }
+{
     let card = keyset.card.0;
     let kvn = keyset.kvn;
     write!(f, "keyset {how}: card {card} kvn {kvn}")

@@ -1,5 +1,5 @@
 ghost use Rattle.std.specs.Prelude.{◌≡◌, IfOk, IfErr};
-ghost use Rattle.ota_commands.specs.Inputs.{input_of, text_reading, plan_reading, jobs_reading, Says, ReadFaultComes, AreRows};
+ghost use Rattle.ota_commands.specs.Inputs.{input_of, IsReadWithin, text_reading, plan_reading, jobs_reading, Says, ReadFaultComes, AreRows};
 ghost use Rattle.ota_commands.specs.Fault.{fault_of_plan, fault_of_jobs};
 
 use crate::faults::{Fault, Which};
@@ -14,6 +14,7 @@ pub fn plan_from<S: Source>(alloc: Global, source: &mut S) -> Result<Plan, Fault
         IfOk result (Says plan_reading input) }
     ensures fault { let input = input_of (S.tells source.old) (S.left source.old) (S.faults source.old) (S.faults source.new) in
         IfErr result (ReadFaultComes Which.Plan plan_reading input) }
+    ensures reads { IsReadWithin S.tells S.left source.old source.new }
 {
     let text = text_from(alloc, source, Which::Plan)?;
     match read_plan(alloc, &text) {
@@ -28,6 +29,7 @@ pub fn jobs_from<S: Source>(alloc: Global, source: &mut S, plan: &Plan) -> Resul
         IfOk result (λ jobs. Says (jobs_reading plan.now) input jobs.items) }
     ensures fault { let input = input_of (S.tells source.old) (S.left source.old) (S.faults source.old) (S.faults source.new) in
         IfErr result (ReadFaultComes Which.Jobs (jobs_reading plan.now) input) }
+    ensures reads { IsReadWithin S.tells S.left source.old source.new }
     ensures rows { IfOk result (λ jobs. AreRows jobs.items) }
 {
     let text = text_from(alloc, source, Which::Jobs)?;
@@ -43,6 +45,7 @@ fn text_from<S: Source>(alloc: Global, source: &mut S, which: Which) -> Result<V
         IfOk result (λ text. Says (text_reading which) input text.items) }
     ensures fault { let input = input_of (S.tells source.old) (S.left source.old) (S.faults source.old) (S.faults source.new) in
         IfErr result (ReadFaultComes which (text_reading which) input) }
+    ensures reads { IsReadWithin S.tells S.left source.old source.new }
 {
     match read_all(alloc, source) {
         Ok(text) => Ok(text),

@@ -1,7 +1,7 @@
 //! The command `packet`.
 
 ghost use Rattle.std.specs.Prelude.{◌⊎◌, ◌≤◌, List, Option, length};
-ghost use Rattle.ota_commands.specs.Inputs.{source_input, AreRows};
+ghost use Rattle.ota_commands.specs.Inputs.{source_input, IsReadWithin, AreRows};
 ghost use Rattle.ota_commands.specs.declared.faults.Fault as fault;
 ghost use Rattle.ota_commands.specs.Command.{NoneEnded, HasStopped, HasShown, HasRunPacket};
 
@@ -17,6 +17,7 @@ use std::alloc::Global;
 
 /// Reads the plan and the jobs, opens the journals, and writes the messages of the jobs that are reserved and not settled.
 /// It adds nothing.
+#[tactic(auto, using(crate::proofs::Untouched::takes_nothing))]
 pub fn packet<S: Source, K: Sink, T: DiskCalls>(
     alloc: Global,
     plan: &mut S,
@@ -26,8 +27,10 @@ pub fn packet<S: Source, K: Sink, T: DiskCalls>(
 ) -> Option<Fault>
     requires some { 1 ≤ length sites.old }
     requires few { length sites.old ≤ 64 }
-    ensures { (ends : List (Option fault.Fault)) → NoneEnded sites.old ends → HasRunPacket T.told T.counts K.tells K.written K.faults (source_input S.tells S.left S.faults plan.old plan.new) (source_input S.tells S.left S.faults jobs.old jobs.new)
-        sites.old sites.new out.old out.new result ends }
+    ensures course { (ends : List (Option fault.Fault)) → NoneEnded sites.old ends → HasRunPacket T.told T.counts K.tells K.written K.faults (source_input S.tells S.left S.faults plan.old plan.new) (source_input S.tells S.left S.faults jobs.old jobs.new)
+        jobs.old jobs.new sites.old sites.new out.old out.new result ends }
+    ensures plan_reads { IsReadWithin S.tells S.left plan.old plan.new }
+    ensures jobs_reads { IsReadWithin S.tells S.left jobs.old jobs.new }
 {
     let plan = match plan_from(alloc, plan) {
         Ok(plan) => plan,

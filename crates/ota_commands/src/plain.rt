@@ -1,6 +1,7 @@
 ghost use Rattle.std.specs.Prelude.{◌≡◌, ◌≤◌, None, Some, IfSome, IfOk, length, map, string_bytes, replicate};
 ghost use Rattle.lane_session.specs.Sound.{AreSound, StaySound};
 ghost use Rattle.ota_commands.specs.Words.{command_for};
+ghost use Rattle.ota_commands.specs.Inputs.{IsReadWithin};
 ghost use Rattle.ota_commands.specs.Fault.{status_of_end};
 ghost use Rattle.ota_commands.specs.Command.{NoneEnded, IsCourse};
 ghost use Rattle.ota_commands.specs.Answers.{seen_of, Comes, IsComplete, AllOpen};
@@ -42,6 +43,10 @@ pub struct Ended<T> {
 /// job after the other, each durably before the next; and writes the report. A lane that fails stops, and the others go on.
 ///
 /// `packet`, with the same options, writes the messages of the jobs that are reserved and not settled, and adds nothing.
+///
+/// The jobs are read only where the plan was, and the sites are called only where both were. At most 8,388,609 octets of
+/// each are read.
+#[tactic(auto, using(crate::proofs::Untouched::takes_nothing))]
 pub fn plain_command<S: Source, K: Sink, T: Site>(
     alloc: Global,
     words: &[String],
@@ -53,6 +58,8 @@ pub fn plain_command<S: Source, K: Sink, T: Site>(
     ensures status { result.status ≡ status_of_end result.fault }
     ensures course { IsCourse T.told T.counts K.tells K.written K.faults S.tells S.left S.faults (command_for (map string_bytes words.now) (length sites.items))
         sites.items result.sites.items plan.old plan.new jobs.old jobs.new out.old out.new result.fault result.ends.items }
+    ensures plan_reads { IsReadWithin S.tells S.left plan.old plan.new }
+    ensures jobs_reads { IsReadWithin S.tells S.left jobs.old jobs.new }
     ensures sound { AreSound T.told sites.items → StaySound T.told sites.items result.sites.items }
     ensures formatted { AreSound T.told sites.items → command_for (map string_bytes words.now) (length sites.items) ≡ Some commands.Format → result.fault ≡ None → AllOpen T.told result.sites.items }
     ensures cause { IfSome result.fault (Comes T.told T.counts (seen_of S.tells S.left S.faults K.faults (command_for (map string_bytes words.now) (length sites.items))
@@ -84,6 +91,8 @@ fn carry_out<S: Source, K: Sink, T: DiskCalls>(
     requires few { IfSome command (λ command. length sites.old ≤ 64) }
     requires not_ended { NoneEnded sites.old ends.old }
     ensures course { IsCourse T.told T.counts K.tells K.written K.faults S.tells S.left S.faults command sites.old sites.new plan.old plan.new jobs.old jobs.new out.old out.new result ends.new }
+    ensures plan_reads { IsReadWithin S.tells S.left plan.old plan.new }
+    ensures jobs_reads { IsReadWithin S.tells S.left jobs.old jobs.new }
     ensures sound { AreSound T.told sites.old → StaySound T.told sites.old sites.new }
     ensures formatted { AreSound T.told sites.old → command ≡ Some commands.Format → result ≡ None → AllOpen T.told sites.new }
     ensures cause { IfSome result (Comes T.told T.counts (seen_of S.tells S.left S.faults K.faults command sites.old sites.new plan.old plan.new jobs.old jobs.new out.old out.new)) }
@@ -93,6 +102,7 @@ fn carry_out<S: Source, K: Sink, T: DiskCalls>(
 }
 
 /// Runs a command, where there is one.
+#[tactic(auto, using(crate::proofs::Untouched::takes_nothing))]
 fn run<S: Source, K: Sink, T: DiskCalls>(
     alloc: Global,
     command: Option<Command>,
@@ -105,7 +115,9 @@ fn run<S: Source, K: Sink, T: DiskCalls>(
     requires some { IfSome command (λ command. 1 ≤ length sites.old) }
     requires few { IfSome command (λ command. length sites.old ≤ 64) }
     requires not_ended { NoneEnded sites.old ends.old }
-    ensures { IsCourse T.told T.counts K.tells K.written K.faults S.tells S.left S.faults command sites.old sites.new plan.old plan.new jobs.old jobs.new out.old out.new result ends.new }
+    ensures course { IsCourse T.told T.counts K.tells K.written K.faults S.tells S.left S.faults command sites.old sites.new plan.old plan.new jobs.old jobs.new out.old out.new result ends.new }
+    ensures plan_reads { IsReadWithin S.tells S.left plan.old plan.new }
+    ensures jobs_reads { IsReadWithin S.tells S.left jobs.old jobs.new }
 {
     match command {
         None => Some(Fault::Usage),

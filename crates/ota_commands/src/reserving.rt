@@ -2,7 +2,7 @@
 
 ghost use Rattle.std.specs.Prelude.{◌≡◌, ◌⊎◌, ◌≤◌, length};
 ghost use Rattle.lane_session.specs.Lanes.{AreReady};
-ghost use Rattle.ota_commands.specs.Inputs.{source_input, AreRows};
+ghost use Rattle.ota_commands.specs.Inputs.{source_input, IsReadWithin, AreRows};
 ghost use Rattle.ota_commands.specs.Command.{NoneEnded, HasAdded, HasStopped, HasReserved, HasRunReserve};
 
 use crate::ends::{first_end, set_ends};
@@ -19,6 +19,7 @@ use std::alloc::Global;
 
 /// Reads the plan and the jobs, opens the journals, reserves a counter for each job, each durably before the next, and
 /// writes the report.
+#[tactic(auto, using(crate::proofs::Untouched::takes_nothing))]
 pub fn reserve<S: Source, K: Sink, T: DiskCalls>(
     alloc: Global,
     plan: &mut S,
@@ -30,8 +31,10 @@ pub fn reserve<S: Source, K: Sink, T: DiskCalls>(
     requires some { 1 ≤ length sites.old }
     requires few { length sites.old ≤ 64 }
     requires not_ended { NoneEnded sites.old ends.old }
-    ensures { HasRunReserve T.told T.counts K.tells K.written K.faults (source_input S.tells S.left S.faults plan.old plan.new) (source_input S.tells S.left S.faults jobs.old jobs.new)
-        sites.old sites.new out.old out.new result ends.new }
+    ensures course { HasRunReserve T.told T.counts K.tells K.written K.faults (source_input S.tells S.left S.faults plan.old plan.new) (source_input S.tells S.left S.faults jobs.old jobs.new)
+        jobs.old jobs.new sites.old sites.new out.old out.new result ends.new }
+    ensures plan_reads { IsReadWithin S.tells S.left plan.old plan.new }
+    ensures jobs_reads { IsReadWithin S.tells S.left jobs.old jobs.new }
 {
     let plan = match plan_from(alloc, plan) {
         Ok(plan) => plan,

@@ -16,6 +16,10 @@ const PLAN: &str =
 const OTHER_PLAN: &str =
     "campaign = 7\n[[card]]\nnumber = 8901\n[[keyset]]\ncard = 8901\nkvn = 1\nkic = \"000102030405060708090a0b0c0d0e0f\"\nkid = \"2b7e151628aed2a6abf7158809cf4f3d\"\n";
 
+/// The same plan with the last counter as base.
+const LAST_PLAN: &str =
+    "campaign = 7\n[[card]]\nnumber = 8901\n[[keyset]]\ncard = 8901\nkvn = 1\nkic = \"000102030405060708090a0b0c0d0e0f\"\nkid = \"2b7e151628aed2a6abf7158809cf4f3c\"\nbase = \"fffffffffe\"\n";
+
 const HEADER: &str = "job,card,kvn,tar,script\n";
 
 const FIRST: &str = "1,8901,1,b00010,00a40000027f1000a40000026f3a00d6000003aabbcc\n";
@@ -77,6 +81,55 @@ const CLOSED: &[u8] = &[
     0x00, 0x00, 0x0E, 0x05, 0x00, 0x00, 0x00, 0x00, 0x00, 0x00, 0x00, 0x00, 0x00, 0x00, 0x22, 0xC5,
     0x01, 0x00,
 ];
+
+/// The mark and the head of the journal of lane 0 of 1.
+const HEAD_OF_ONE: &[u8] = &[
+    0xA5, 0x4F, 0x54, 0x41, 0x4A, 0x01, 0x00, 0x00, 0x00, 0x01,
+];
+
+/// An open gate, and the batch with the Open of keyset 1 of card 8901 as the plan says, in version 1.
+const OPEN: &[u8] = &[
+    0xA5, 0x00, 0x00, 0x00, 0x3B, 0x00, 0x00, 0x00, 0x37, 0x01, 0x00, 0x00, 0x00, 0x00, 0x00, 0x00,
+    0x00, 0x00, 0x00, 0x00, 0x22, 0xC5, 0x01, 0x00, 0x00, 0x00, 0x00, 0x00, 0x02, 0x01, 0x10, 0x00,
+    0x01, 0x02, 0x03, 0x04, 0x05, 0x06, 0x07, 0x08, 0x09, 0x0A, 0x0B, 0x0C, 0x0D, 0x0E, 0x0F, 0x10,
+    0x2B, 0x7E, 0x15, 0x16, 0x28, 0xAE, 0xD2, 0xA6, 0xAB, 0xF7, 0x15, 0x88, 0x09, 0xCF, 0x4F, 0x3C,
+];
+
+/// The same with base FFFFFFFFFE, the last counter.
+const OPEN_AT_THE_LAST_COUNTER: &[u8] = &[
+    0xA5, 0x00, 0x00, 0x00, 0x3B, 0x00, 0x00, 0x00, 0x37, 0x01, 0x00, 0x00, 0x00, 0x00, 0x00, 0x00,
+    0x00, 0x00, 0x00, 0x00, 0x22, 0xC5, 0x01, 0xFF, 0xFF, 0xFF, 0xFF, 0xFE, 0x02, 0x01, 0x10, 0x00,
+    0x01, 0x02, 0x03, 0x04, 0x05, 0x06, 0x07, 0x08, 0x09, 0x0A, 0x0B, 0x0C, 0x0D, 0x0E, 0x0F, 0x10,
+    0x2B, 0x7E, 0x15, 0x16, 0x28, 0xAE, 0xD2, 0xA6, 0xAB, 0xF7, 0x15, 0x88, 0x09, 0xCF, 0x4F, 0x3C,
+];
+
+/// An open gate, and the batch with the reservation of counter 1 for the first row, in version 1.
+const RESERVED: &[u8] = &[
+    0xA5, 0x00, 0x00, 0x00, 0x38, 0x00, 0x00, 0x00, 0x34, 0x02, 0x00, 0x00, 0x00, 0x00, 0x00, 0x00,
+    0x00, 0x00, 0x00, 0x00, 0x22, 0xC5, 0x01, 0x00, 0x00, 0x00, 0x00, 0x01, 0x00, 0x00, 0x00, 0x07,
+    0x00, 0x00, 0x00, 0x01, 0xB0, 0x00, 0x10, 0x00, 0xA4, 0x00, 0x00, 0x02, 0x7F, 0x10, 0x00, 0xA4,
+    0x00, 0x00, 0x02, 0x6F, 0x3A, 0x00, 0xD6, 0x00, 0x00, 0x03, 0xAA, 0xBB, 0xCC,
+];
+
+/// An open gate, and the batch with its answer AABBCC.
+const DONE: &[u8] = &[
+    0xA5, 0x00, 0x00, 0x00, 0x1A, 0x00, 0x00, 0x00, 0x16, 0x03, 0x00, 0x00, 0x00, 0x00, 0x00, 0x00,
+    0x00, 0x00, 0x00, 0x00, 0x22, 0xC5, 0x01, 0x00, 0x00, 0x00, 0x00, 0x01, 0xAA, 0xBB, 0xCC,
+];
+
+/// An open gate, and the batch with its refusal under status 09.
+const REFUSED: &[u8] = &[
+    0xA5, 0x00, 0x00, 0x00, 0x18, 0x00, 0x00, 0x00, 0x14, 0x04, 0x00, 0x00, 0x00, 0x00, 0x00, 0x00,
+    0x00, 0x00, 0x00, 0x00, 0x22, 0xC5, 0x01, 0x00, 0x00, 0x00, 0x00, 0x01, 0x09,
+];
+
+/// An open gate, and the front of a batch with an answer of 16,776,972 octets.
+const LONG_DONE: &[u8] = &[
+    0xA5, 0x00, 0xFF, 0xFF, 0x23, 0x00, 0xFF, 0xFF, 0x1F, 0x03, 0x00, 0x00, 0x00, 0x00, 0x00, 0x00,
+    0x00, 0x00, 0x00, 0x00, 0x22, 0xC5, 0x01, 0x00, 0x00, 0x00, 0x00, 0x01,
+];
+
+const CLOSED_GATE: &[u8] = &[0x00];
 
 const RESERVE: &[&str] = &[
     "reserve", "--lanes", "1", "--store", "s", "--plan", "p", "--jobs", "j",
@@ -634,5 +687,147 @@ fn another_number_of_sites_is_refused(rt: HostRuntime) -> Result<(), Fail> {
     let came = run(alloc, &with_jobs(HEADER), Vec::new(alloc))?;
     assert!(rt; is_end(&came, Some(Fault::Usage), ""));
     assert!(rt; came.ended.ends.is_empty());
+    Ok(())
+}
+
+/// The octets of parts, one behind the other.
+fn joined(alloc: Global, parts: &[&[u8]]) -> Result<Vec<u8>, AllocError> {
+    let mut octets = Vec::new(alloc);
+    for part in parts {
+        octets.extend_from_slice(part)?;
+    }
+    Ok(octets)
+}
+
+#[test]
+fn a_done_job_has_the_octets_of_its_answer(rt: HostRuntime) -> Result<(), Fail> {
+    let alloc = rt.alloc();
+    let jobs = text_of(alloc, &[HEADER, FIRST])?;
+    let report = text_of(alloc, &[REPORT_HEADER, "1,8901,1,done,0000000001,aabbcc\n"])?;
+    let journal = joined(alloc, &[HEAD_OF_ONE, OPEN, RESERVED, DONE, CLOSED_GATE])?;
+    assert_eq!(rt; journal.len(), 167);
+    assert!(rt; came_to(alloc, &with_jobs(&jobs), &journal, None, &report, 178)?);
+    let shown = with(PACKET, &jobs);
+    assert!(rt; came_to(alloc, &shown, &journal, None, PACKETS_HEADER, 178)?);
+    Ok(())
+}
+
+#[test]
+fn a_refused_job_has_its_status(rt: HostRuntime) -> Result<(), Fail> {
+    let alloc = rt.alloc();
+    let jobs = text_of(alloc, &[HEADER, FIRST])?;
+    let report = text_of(alloc, &[REPORT_HEADER, "1,8901,1,refused,0000000001,09\n"])?;
+    let journal = joined(alloc, &[HEAD_OF_ONE, OPEN, RESERVED, REFUSED, CLOSED_GATE])?;
+    assert!(rt; came_to(alloc, &with_jobs(&jobs), &journal, None, &report, 176)?);
+    Ok(())
+}
+
+#[test]
+fn an_exhausted_keyset_gives_no_counter(rt: HostRuntime) -> Result<(), Fail> {
+    let alloc = rt.alloc();
+    let jobs = text_of(alloc, &[HEADER, FIRST])?;
+    let report = text_of(alloc, &[REPORT_HEADER, "1,8901,1,unsettled,-,exhausted\n"])?;
+    let journal = joined(alloc, &[HEAD_OF_ONE, OPEN_AT_THE_LAST_COUNTER, CLOSED_GATE])?;
+    let mut last = with_jobs(&jobs);
+    last.plan = LAST_PLAN;
+    assert!(rt; came_to(alloc, &last, &journal, None, &report, 86)?);
+    Ok(())
+}
+
+/// A journal in which a long answer leaves 69 octets of room behind the mark of version 2.
+fn nearly_full(alloc: Global) -> Result<Vec<u8>, AllocError> {
+    let mut journal = joined(alloc, &[HEAD_OF_ONE, OPEN, RESERVED, LONG_DONE])?;
+    let answer = vec![in alloc; 0; 16_776_972]?;
+    journal.extend_from_slice(&answer)?;
+    journal.extend_from_slice(CLOSED_GATE)?;
+    Ok(journal)
+}
+
+#[test]
+fn a_full_journal_takes_no_reservation(rt: HostRuntime) -> Result<(), Fail> {
+    let alloc = rt.alloc();
+    let jobs = text_of(alloc, &[HEADER, SECOND])?;
+    let report = text_of(alloc, &[REPORT_HEADER, "2,8901,1,unsettled,-,-\n"])?;
+    let journal = nearly_full(alloc)?;
+    let full = Fault::Full(0, 16_777_147, 70);
+    assert!(rt; came_to(alloc, &with_jobs(&jobs), &journal, Some(full), &report, 16_777_147)?);
+    assert_eq!(rt; full.status(), 24);
+    Ok(())
+}
+
+#[test]
+fn each_fault_has_its_text(rt: HostRuntime) -> Result<(), Fail> {
+    let alloc = rt.alloc();
+    let keyset = KeysetId {
+        card: CardId(8901),
+        kvn: 15,
+    };
+    let cases = [
+        (
+            Fault::Usage,
+            "usage: ota format, reserve, send, report, close, cards, packet, drill",
+        ),
+        (
+            Fault::PlanRefused(Table::Top, 0, Field::Text),
+            "plan refused: top 0 text",
+        ),
+        (
+            Fault::PlanRefused(Table::Keyset, 12, Field::CardOf),
+            "plan refused: keyset 12 cardof",
+        ),
+        (
+            Fault::JobsRefused(3, Column::Script),
+            "jobs refused: row 3 script",
+        ),
+        (Fault::InputTooLong(Which::Plan), "input too long: plan"),
+        (Fault::InputTooLong(Which::Jobs), "input too long: jobs"),
+        (
+            Fault::JobDiffers(4_294_967_295, Counter(0)),
+            "job differs: row 4294967295 counter 0000000000",
+        ),
+        (
+            Fault::JobDiffers(7, Counter(0x01_0203_ABCD)),
+            "job differs: row 7 counter 010203abcd",
+        ),
+        (
+            Fault::JobDiffers(1, Counter(0xFF_FFFF_FFFE)),
+            "job differs: row 1 counter fffffffffe",
+        ),
+        (
+            Fault::KeysetDiffers(keyset),
+            "keyset differs: card 8901 kvn 15",
+        ),
+        (
+            Fault::KeysetClosed(keyset),
+            "keyset closed: card 8901 kvn 15",
+        ),
+        (
+            Fault::KeysetUnknown(keyset),
+            "keyset unknown: card 8901 kvn 15",
+        ),
+        (Fault::SourceFault(Which::Plan), "read fault: plan"),
+        (Fault::SourceFault(Which::Jobs), "read fault: jobs"),
+        (Fault::SinkFault, "write fault"),
+        (Fault::SiteFault(63), "site fault: lane 63"),
+        (Fault::NotAJournal(0), "not a journal: lane 0"),
+        (
+            Fault::WrongLane(1, 2, 64),
+            "wrong lane: place 1 holds 2 of 64",
+        ),
+        (
+            Fault::Damaged(5, 4_294_967_296),
+            "damaged journal: lane 5 record 4294967296",
+        ),
+        (
+            Fault::Full(0, 16_777_147, 70),
+            "journal full: lane 0 length 16777147 need 70",
+        ),
+        (Fault::Unformatted(2), "not formatted: lane 2"),
+        (Fault::Memory, "out of memory"),
+    ];
+    for (fault, text) in cases {
+        let written = format!(in alloc; "{fault}")?;
+        assert_eq!(rt; written.as_str(), text);
+    }
     Ok(())
 }
