@@ -29,6 +29,7 @@ pub struct CardState {
 }
 
 impl CardState {
+    ghost use Rattle.applet_registry.specs.Sound.{IsSound};
     ghost use Rattle.applet_registry.specs.State.{is_issued, put_of};
     ghost use Rattle.script_engine.specs.Run.{issued_card, fresh_card, with_mf_selected, HasRun, HasBegun};
 
@@ -64,14 +65,16 @@ impl CardState {
 
     /// Whether the card was issued with a keyset of this number.
     pub fn is_issued(&self, kvn: u8) -> bool
-        ensures { result ≡ is_issued self.now.registry kvn }
+        ensures issued { result ≡ is_issued self.now.registry kvn }
+        ensures sound { IsSound self.now.registry }
     {
         self.registry.is_issued(kvn)
     }
 
     /// The keyset that PUT KEY has put with this number.
     pub fn put_keyset(&self, kvn: u8) -> Option<&KeysetFacts>
-        ensures { option_copied result ≡ put_of self.now.registry kvn }
+        ensures keyset { option_copied result ≡ put_of self.now.registry kvn }
+        ensures sound { IsSound self.now.registry }
     {
         self.registry.put_keyset(kvn)
     }
