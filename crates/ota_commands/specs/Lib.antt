@@ -6,3 +6,4 @@ pub mod Writing
 pub mod Ends
 pub mod Command
 pub mod Answers
+pub mod BlankLaws

@@ -5,6 +5,7 @@ mod ends;
 mod faults;
 mod formatting;
 mod inputs;
+mod laws;
 mod opening;
 mod packets;
 mod plain;
@@ -12,6 +13,7 @@ mod reserving;
 mod words;
 mod writing;
 
+pub use laws::blank_sites_are_sound;
 pub use faults::{Fault, Which};
 pub use plain::{Ended, plain_command};
 pub use words::{Command, Words, read_words};
