@@ -1,5 +1,5 @@
 -- Nothing is taken from a source that is left as it was.
-use Rattle.std.proofs.Common.{◌≡◌, ℕ, List, [], refl, arith}
+use Rattle.std.proofs.Common.{ℕ, List, [], refl, arith}
 use Rattle.ota_io.specs.Octets.{TakesAtMost}
 
 pub takes_nothing : (octets : List ℕ) → TakesAtMost 8388609 octets octets

@@ -1,10 +1,11 @@
 -- Where a caller begins: sites on which no entry was ever added are sound.
 use Rattle.std.specs.Prelude.{◌≡◌, ◌⊎◌, ℕ, ◌+◌, ◌<◌, List, [], ◌∷◌, length, slice_index_or, get_or, refl}
 use Rattle.std.specs.List.{flat_map}
-use Rattle.std.proofs.Common.{inl, inr, sym, ◌∙◌, subst, arith}
+use Rattle.std.proofs.Common.{inl, inr, ◌∙◌, subst, arith}
+use native.Mathlib.Numerals.{unary_clauses}
 use Rattle.disk_model.specs.Disk.{Meaning, Tells, image_now}
 use Rattle.gate_log.specs.Making.{short_unformatted}
-use Rattle.ota_core.specs.History.{live_reservations, EachJobLiveOnce}
+use Rattle.ota_core.specs.History.{live_reservations}
 use Rattle.ota_core.specs.declared.jobs.JobId.{JobId}
 use Rattle.ota_core.specs.declared.entries.Entry.{Entry}
 use Rattle.counter_journal.specs.Journal.{journal_head}
@@ -38,7 +39,7 @@ none_live : (job : JobId) (histories : List (List Entry)) → ((k : ℕ) → k <
 none_live job [] each = refl
 none_live job (history ∷ histories) each =
     let first : history ≡ [] = each 0 (omega arith) in
-    rw (first, none_live job histories (λ k below. each (k + 1) (omega (arith, below)))) refl
+    rw (first, none_live job histories (λ k below. simp unary_clauses at (each (k + 1) (omega (arith, below))))) refl
 
 module _ {D B C : Type 0} (told : Meaning D B C) where
   -- the sites tell, and whatever a stop leaves of each is blank

@@ -432,6 +432,14 @@ fn keyset_facts(facts: ShortFacts) -> Result<KeysetFacts, Fail> {
     })
 }
 
+/// The world steps through all these events.
+fn pass(world: &mut World, events: &[Event]) -> Result<(), Fail> {
+    match world.run(events) {
+        Ok(()) => Ok(()),
+        Err(_) => Err(Fail::from("the events are allowed")),
+    }
+}
+
 /// A card with a buffer of 64 octets, and a packet of one message that left for it.
 fn world_of(
     alloc: Global,
@@ -445,11 +453,8 @@ fn world_of(
     let counter = Counter(opened.base as u64 + 1);
     let reserve = reserved_with(alloc, keyset(), counter, 1, tar, body)?;
     let events = written(alloc, open, reserve)?;
-    world
-        .run(events.as_slice())
-        .ok()
-        .ok_or("both entries are legal")?;
-    world.step(&leave(1, 1)).ok().ok_or("the packet leaves")?;
+    pass(&mut world, events.as_slice())?;
+    pass(&mut world, &[leave(1, 1)])?;
     Ok(world)
 }
 
@@ -525,11 +530,8 @@ fn unissued_world(alloc: Global) -> Result<World, Fail> {
     let mut world = world(alloc)?;
     let reserve = reserved_with(alloc, put_keyset(), Counter(1), 1, RFM, &SCRIPT)?;
     let events = written(alloc, opened_with(put_keyset(), facts()?), reserve)?;
-    world
-        .run(events.as_slice())
-        .ok()
-        .ok_or("both entries are legal")?;
-    world.step(&leave(1, 1)).ok().ok_or("the packet leaves")?;
+    pass(&mut world, events.as_slice())?;
+    pass(&mut world, &[leave(1, 1)])?;
     Ok(world)
 }
 
@@ -558,10 +560,7 @@ fn pieces_of(alloc: Global, body: usize) -> Result<u8, Fail> {
     let body = vec![in alloc; 0x00; body]?;
     let reserve = reserved_with(alloc, keyset(), Counter(1), 1, RFM, body.as_slice())?;
     let events = written(alloc, opened()?, reserve)?;
-    world
-        .run(events.as_slice())
-        .ok()
-        .ok_or("both entries are legal")?;
+    pass(&mut world, events.as_slice())?;
     let mut last = 0;
     for place in 1..=64 {
         if world.step(&leave(1, place)).is_ok() {
@@ -595,10 +594,7 @@ fn two_cards(alloc: Global) -> Result<World, Fail> {
     let mut world = World::new(alloc, vec![in alloc; first, second]?)?;
     reserve_two(alloc, &mut world)?;
     let leaving = vec![in alloc; leave(1, 1), leave(3, 1), leave(3, 2), leave(1, 2)]?;
-    world
-        .run(leaving.as_slice())
-        .ok()
-        .ok_or("the packets leave")?;
+    pass(&mut world, leaving.as_slice())?;
     Ok(world)
 }
 
@@ -606,16 +602,10 @@ fn reserve_two(alloc: Global, world: &mut World) -> Result<(), Fail> {
     let body = [0x00; 200];
     let first = reserved_with(alloc, keyset(), Counter(1), 1, RFM, &body)?;
     let events = written(alloc, opened()?, first)?;
-    world
-        .run(events.as_slice())
-        .ok()
-        .ok_or("both entries are legal")?;
+    pass(world, events.as_slice())?;
     let second = reserved_with(alloc, other_keyset(), Counter(1), 2, RFM, &body)?;
     let events = written(alloc, opened_with(other_keyset(), facts()?), second)?;
-    world
-        .run(events.as_slice())
-        .ok()
-        .ok_or("both entries are legal")?;
+    pass(world, events.as_slice())?;
     Ok(())
 }
 
@@ -624,26 +614,26 @@ fn packet_is_whole_with_each_place_of_it(rt: HostRuntime) -> Result<(), Fail> {
     let alloc = rt.alloc();
     let mut world = two_cards(alloc)?;
     assert_eq!(rt; world.step(&leave(1, 3)), Err(NotAllowed::BadPlace));
-    let parts: [&[u64]; 9] = [
-        &[],
-        &[0],
-        &[3],
-        &[0, 0],
-        &[0, 2],
-        &[0, 3, 4],
-        &[0, 3, 1],
-        &[0, 3],
-        &[3, 0, 3],
+    let cases: [(&[u64], bool); 9] = [
+        (&[], false),
+        (&[0], false),
+        (&[3], false),
+        (&[0, 0], false),
+        (&[0, 2], false),
+        (&[0, 3, 4], false),
+        (&[0, 3, 1], false),
+        (&[0, 3], true),
+        (&[3, 0, 3], true),
     ];
-    let mut whole = 0;
-    for pieces in parts {
+    for (pieces, whole) in cases {
         let event = delivery_of(alloc, CARD, pieces, CardStep::Drop)?;
-        match world.step(&event) {
-            Ok(()) => whole += 1,
-            Err(refusal) => assert_eq!(rt; refusal, NotAllowed::NotWhole),
-        }
+        let due = if whole {
+            Ok(())
+        } else {
+            Err(NotAllowed::NotWhole)
+        };
+        assert_eq!(rt; world.step(&event), due);
     }
-    assert_eq!(rt; whole, 2);
     Ok(())
 }
 
