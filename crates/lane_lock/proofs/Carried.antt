@@ -1,5 +1,5 @@
 -- The one slot that a seat carries.
-use Rattle.std.proofs.Common.{◌≡◌, ℕ, List, [], ◌∷◌, Option, Some, None, refl, sym, ap, ◌∙◌}
+use Rattle.std.proofs.Common.{◌≡◌, ℕ, List, [], ◌∷◌, Option, Some, None, sym, ap, ◌∙◌}
 use Rattle.atomic_table.specs.Table.{Me, rest}
 
 module _ {L : Type 0} where

@@ -1,20 +1,20 @@
 -- The seat that has all numbers finds the lane at home, grown by exactly what it knows of.
-use Rattle.std.proofs.Common.{◌≡◌, ◌≢◌, ℕ, suc, ◌+◌, ◌<◌, ◌≤◌, ◌⊎◌, ◌==◌, cond, List, [], ◌∷◌, ◌++◌, length, Option, Some, refl, sym, ap, subst, ◌∙◌, inl, inr, ⊎_elim, arith, eq-eqb, ne_eqb, le_antisymm}
+use Rattle.std.proofs.Common.{◌≡◌, ◌≢◌, ℕ, suc, ◌+◌, ◌<◌, ◌⊎◌, cond, List, [], ◌∷◌, Option, Some, refl, sym, ap, subst, ◌∙◌, inl, inr, arith, eq-eqb, ne_eqb}
 use mathlib.Core.Logic.{dite}
-use mathlib.Core.Option.{none, some, some-injective}
+use mathlib.Core.Option.{some, some-injective}
 use native.Mathlib.Decide.{dec_le, ℕ_discrete}
 use lib.ListN.{get_elem?}
 use Rattle.atomic_table.specs.Table.{State, Final, Seen}
 use Rattle.lane_lock.specs.declared.views.Key.{Key}
 use Rattle.lane_lock.specs.declared.views.Part.{Part}
 use Rattle.lane_lock.specs.declared.views.Sight.{Sight}
-use Rattle.lane_lock.specs.declared.views.Stage.TheVariants.{Resting, Holding}
+use Rattle.lane_lock.specs.declared.views.Stage.TheVariants.{Resting}
 use Rattle.lane_lock.specs.declared.views.View.{View}
 use Rattle.lane_lock.specs.Numbers.{same, total, within, Each, IsIn}
-use Rattle.lane_lock.specs.Meaning.{Meaning, shown, own}
-use Rattle.lane_lock.specs.Views.{waits, waits_at, has, numbered, weigh_parts}
-use Rattle.lane_lock.specs.Grown.{IsNumber, HasAll, IsFound, IsGrown, IsAsHeavy, added_since}
-use Rattle.lane_lock.specs.Rule.{Fits, Stands, IsAtHome, Slot, inside, outside, IsSetBy, IsRuled}
+use Rattle.lane_lock.specs.Meaning.{Meaning, own}
+use Rattle.lane_lock.specs.Views.{waits, waits_at, has, numbered}
+use Rattle.lane_lock.specs.Grown.{IsNumber, HasAll, IsGrown, IsAsHeavy, added_since}
+use Rattle.lane_lock.specs.Rule.{IsAtHome, Slot, inside, outside, IsSetBy, IsRuled}
 use Rattle.lane_lock.proofs.Counting.{same_here, same_apart, total_at, total_two, within_most, within_low, within_high, within_here}
 use Rattle.lane_lock.proofs.Still.{rests, found_at_home}
 use Rattle.lane_lock.proofs.Passing.{is_number, not_beside}

@@ -1,5 +1,5 @@
 -- Looking whose turn it is keeps the rule, and gives the lane in one's own turn.
-use Rattle.std.proofs.Common.{◌≡◌, ◌≢◌, ℕ, ◌+◌, ◌<◌, List, [], ◌∷◌, set, slice_index, slice_set, Option, Some, refl, sym, ap, subst, ◌∙◌, ⊎_elim, arith}
+use Rattle.std.proofs.Common.{◌≡◌, ◌≢◌, ℕ, ◌<◌, List, [], ◌∷◌, set, slice_index, slice_set, Option, Some, refl, sym, ap, subst, ◌∙◌, ⊎_elim, arith}
 use mathlib.Core.Logic.{dite}
 use mathlib.Core.Option.{none, some, some-injective}
 use native.Mathlib.Decide.{ℕ_discrete}
@@ -11,12 +11,11 @@ use Rattle.lane_lock.specs.declared.views.Sight.{Sight}
 use Rattle.lane_lock.specs.declared.views.Stage.{Stage}
 use Rattle.lane_lock.specs.declared.views.Stage.TheVariants.{Waiting, Holding}
 use Rattle.lane_lock.specs.declared.views.View.{View}
-use Rattle.lane_lock.specs.Numbers.{total, within}
-use Rattle.lane_lock.specs.Meaning.{Meaning, shown, IsNoEarlier}
-use Rattle.lane_lock.specs.Views.{waits, waits_at, has, numbered, taken, staged}
+use Rattle.lane_lock.specs.Meaning.{Meaning, shown}
+use Rattle.lane_lock.specs.Views.{waits, waits_at, has, taken, staged}
 use Rattle.lane_lock.specs.Grown.{IsFound}
-use Rattle.lane_lock.specs.Rule.{Fits, IsAtHome, NoneHolds, Slot, inside, outside, IsRuled}
-use Rattle.lane_lock.specs.Plays.{looked, Took}
+use Rattle.lane_lock.specs.Rule.{Fits, IsAtHome, Slot, inside, outside, IsRuled}
+use Rattle.lane_lock.specs.Plays.{looked}
 use Rattle.lane_lock.proofs.Counting.{total_set, set_found, same_here}
 use Rattle.lane_lock.proofs.Sights.{no_earlier_self}
 use Rattle.lane_lock.proofs.Still.{waits_still, same_ticket, same_state, set_still, only_holder, found_at_home}

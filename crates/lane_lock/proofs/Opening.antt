@@ -1,18 +1,17 @@
 -- A new lock keeps the rule.
-use Rattle.std.proofs.Common.{◌≡◌, ℕ, zero, suc, ◌<◌, List, [], ◌∷◌, map, Option, Some, refl, sym, ap, subst, ◌∙◌, inl, arith}
+use Rattle.std.proofs.Common.{◌≡◌, ℕ, zero, suc, List, [], ◌∷◌, map, Option, Some, refl, sym, ap, subst, ◌∙◌, inl, arith}
 use Rattle.std.proofs.Math.Seq.{drop-length}
 use mathlib.Core.Option.{some, some-injective, some-ne-none}
 use lib.ListN.{get_elem?}
-use Rattle.atomic_table.specs.Table.{State, opening}
+use Rattle.atomic_table.specs.Table.{opening}
 use Rattle.lane_lock.specs.declared.views.Key.{Key}
-use Rattle.lane_lock.specs.declared.views.Sight.{Sight}
-use Rattle.lane_lock.specs.declared.views.Stage.TheVariants.{Resting, Holding}
+use Rattle.lane_lock.specs.declared.views.Stage.TheVariants.{Resting}
 use Rattle.lane_lock.specs.declared.views.View.{View}
-use Rattle.lane_lock.specs.Numbers.{within, Each}
+use Rattle.lane_lock.specs.Numbers.{Each}
 use Rattle.lane_lock.specs.Meaning.{Meaning, shown, own}
 use Rattle.lane_lock.specs.Views.{dealer}
-use Rattle.lane_lock.specs.Grown.{IsNumber, added_since}
-use Rattle.lane_lock.specs.Rule.{Fits, Stands, IsAtHome, Slot, inside, IsRuled}
+use Rattle.lane_lock.specs.Grown.{IsNumber}
+use Rattle.lane_lock.specs.Rule.{Fits, Stands, inside, IsRuled}
 use Rattle.lane_lock.proofs.Counting.{within_none}
 use Rattle.lane_lock.proofs.Sights.{begins_self, no_earlier_self}
 use Rattle.lane_lock.proofs.Still.{rests}

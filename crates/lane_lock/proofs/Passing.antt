@@ -11,11 +11,11 @@ use Rattle.lane_lock.specs.declared.views.Sight.{Sight}
 use Rattle.lane_lock.specs.declared.views.Stage.{Stage}
 use Rattle.lane_lock.specs.declared.views.Stage.TheVariants.{Resting, Waiting, Holding}
 use Rattle.lane_lock.specs.declared.views.View.{View}
-use Rattle.lane_lock.specs.Numbers.{same, total, within, Each, IsIn, behind, Begins}
+use Rattle.lane_lock.specs.Numbers.{same, within, Each, IsIn, behind, Begins}
 use Rattle.lane_lock.specs.Meaning.{Meaning, shown, own, IsNoEarlier}
 use Rattle.lane_lock.specs.Views.{waits, waits_at, has, numbered, leader, left, is_holding, held_ticket, added_to_first, newly_set}
 use Rattle.lane_lock.specs.Grown.{IsNumber, MayLeave, added_since}
-use Rattle.lane_lock.specs.Rule.{Fits, Stands, IsAtHome, Slot, inside, outside, IsSetBy, IsRuled}
+use Rattle.lane_lock.specs.Rule.{Fits, Stands, Slot, inside, outside, IsSetBy, IsRuled}
 use Rattle.lane_lock.specs.Plays.{passed}
 use Rattle.lane_lock.proofs.Counting.{same_here, set_found, total_set, total_at, total_two, within_most, within_low, within_high, within_start, Each_map, Each_append}
 use Rattle.lane_lock.proofs.Sights.{behind_chain, no_earlier_self, no_earlier_chain, own_append, own_none, own_all}

@@ -1,5 +1,5 @@
 -- Giving a number away, and making one seat of two, keep the rule. A seat then knows that it has seen what either had.
-use Rattle.std.proofs.Common.{◌≡◌, ◌≢◌, ℕ, suc, ◌+◌, ◌<◌, ◌≤◌, ◌⊎◌, Bool, true, false, leb, List, [], ◌∷◌, ◌++◌, length, set, slice_index, slice_set, if◌then◌else◌, Option, Some, None, refl, sym, ap, subst, ◌∙◌, inl, inr, ⊎_elim, arith}
+use Rattle.std.proofs.Common.{◌≡◌, ◌≢◌, ℕ, ◌<◌, ◌≤◌, Bool, true, false, leb, List, [], ◌∷◌, ◌++◌, length, set, slice_index, slice_set, if◌then◌else◌, Option, Some, None, refl, sym, ap, subst, ◌∙◌, inl, inr, ⊎_elim, arith}
 use Rattle.std.proofs.lemmas.Bool.Decides.{nat_tests}
 use mathlib.Core.Logic.{dite}
 use mathlib.Core.Option.{none, some, some-injective}
@@ -12,11 +12,11 @@ use Rattle.lane_lock.specs.declared.views.Part.{Part}
 use Rattle.lane_lock.specs.declared.views.Sight.{Sight}
 use Rattle.lane_lock.specs.declared.views.Stage.TheVariants.{Resting, Holding}
 use Rattle.lane_lock.specs.declared.views.View.{View}
-use Rattle.lane_lock.specs.Numbers.{same, total, within, Each, IsIn, Begins}
+use Rattle.lane_lock.specs.Numbers.{same, IsIn, Begins}
 use Rattle.lane_lock.specs.Meaning.{Meaning, own, IsNoEarlier}
-use Rattle.lane_lock.specs.Views.{waits, waits_at, has, numbered, giving, given, joined, spent, longer, either_end, both_seen}
+use Rattle.lane_lock.specs.Views.{waits, waits_at, has, numbered, giving, given, joined, spent, either_end, both_seen}
 use Rattle.lane_lock.specs.Grown.{added_since}
-use Rattle.lane_lock.specs.Rule.{Fits, NoneHolds, Slot, inside, outside, IsSetBy, IsRuled}
+use Rattle.lane_lock.specs.Rule.{Fits, Slot, inside, outside, IsSetBy, IsRuled}
 use Rattle.lane_lock.specs.Plays.{learned}
 use Rattle.lane_lock.proofs.Counting.{total_set, total_append, set_found, within_none, within_start, within_here, Each_append}
 use Rattle.lane_lock.proofs.Sights.{begins_from, begins_self}

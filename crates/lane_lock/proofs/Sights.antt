@@ -1,6 +1,6 @@
 -- Lists that begin others, sights that are no earlier than others, and the entries under one number.
-use Rattle.std.proofs.Common.{◌≡◌, ◌≢◌, ℕ, ◌==◌, cond, true, false, List, [], ◌∷◌, ◌++◌, length, drop, filter, Option, Some, refl, sym, ap, subst, ◌∙◌, append_assoc, ne_eqb, eq-eqb}
-use Rattle.std.proofs.Math.Seq.{drop-append_seam, drop-length}
+use Rattle.std.proofs.Common.{◌≡◌, ◌≢◌, ℕ, ◌==◌, cond, List, [], ◌∷◌, ◌++◌, length, drop, refl, sym, ap, ◌∙◌, append_assoc, ne_eqb, eq-eqb}
+use Rattle.std.proofs.Math.Seq.{drop-append_seam}
 use Rattle.std.proofs.lemmas.List.{append-nil}
 use Rattle.std.proofs.lemmas.List.Elements.{filter-append}
 use Rattle.lane_lock.specs.declared.views.Sight.{Sight}

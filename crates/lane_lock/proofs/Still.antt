@@ -1,5 +1,5 @@
 -- What a step that changes one view leaves as it was.
-use Rattle.std.proofs.Common.{◌≡◌, ◌≢◌, ℕ, ◌+◌, ◌<◌, ◌≤◌, ◌⊎◌, List, [], ◌∷◌, set, Option, Some, refl, sym, ap, subst, ◌∙◌, inl, inr, ⊎_elim, arith}
+use Rattle.std.proofs.Common.{◌≡◌, ◌≢◌, ℕ, ◌<◌, List, set, Option, sym, ap, subst, ◌∙◌, inl, inr, ⊎_elim, arith}
 use mathlib.Core.Logic.{dite}
 use mathlib.Core.Option.{some, some-injective}
 use native.Mathlib.Decide.{ℕ_discrete}
@@ -11,12 +11,12 @@ use Rattle.lane_lock.specs.declared.views.Sight.{Sight}
 use Rattle.lane_lock.specs.declared.views.Stage.{Stage}
 use Rattle.lane_lock.specs.declared.views.Stage.TheVariants.{Resting, Waiting, Holding}
 use Rattle.lane_lock.specs.declared.views.View.{View}
-use Rattle.lane_lock.specs.Numbers.{total, within, IsIn}
+use Rattle.lane_lock.specs.Numbers.{IsIn}
 use Rattle.lane_lock.specs.Meaning.{Meaning, shown}
-use Rattle.lane_lock.specs.Views.{waits, waits_at, has, numbered}
+use Rattle.lane_lock.specs.Views.{waits, waits_at, numbered}
 use Rattle.lane_lock.specs.Grown.{IsFound}
-use Rattle.lane_lock.specs.Rule.{Fits, Stands, IsAtHome, NoneHolds, Slot, inside, outside, IsSetBy, IsRuled}
-use Rattle.lane_lock.proofs.Counting.{same_here, set_found, total_two, total_at, within_most}
+use Rattle.lane_lock.specs.Rule.{Fits, Stands, IsAtHome, Slot, inside, outside, IsSetBy, IsRuled}
+use Rattle.lane_lock.proofs.Counting.{same_here, set_found, total_two, within_most}
 
 pub rests : (stage : Stage) (t : ℕ) → stage ≡ Resting → stage ≡ Holding t → ⊥
 rests stage t e h = cc

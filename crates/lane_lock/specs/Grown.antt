@@ -1,5 +1,5 @@
 -- What is promised of the lane at each hold and at the end.
-use Rattle.std.specs.Prelude.{◌≡◌, ℕ, suc, ◌<◌, ◌≤◌, ◌⊎◌, List, Option, Some}
+use Rattle.std.specs.Prelude.{◌≡◌, ℕ, suc, ◌<◌, ◌≤◌, ◌⊎◌, List, Some}
 use Rattle.lane_lock.specs.declared.views.Key.{Key}
 use Rattle.lane_lock.specs.declared.views.View.{View}
 use Rattle.lane_lock.specs.Numbers.{within, total, Each, IsIn, behind, Begins}

@@ -1,5 +1,5 @@
 -- What a seat knows, and how its knowledge changes.
-use Rattle.std.specs.Prelude.{◌≡◌, ℕ, suc, ◌+◌, ◌<◌, ◌≤◌, Bool, true, false, leb, List, [], ◌∷◌, ◌++◌, length, if◌then◌else◌, Option, Some, None}
+use Rattle.std.specs.Prelude.{ℕ, suc, ◌+◌, Bool, true, false, leb, List, [], ◌∷◌, ◌++◌, length, if◌then◌else◌, Option, Some, None}
 use Rattle.lane_lock.specs.declared.views.Key.{Key}
 use Rattle.lane_lock.specs.declared.views.Part.{Part}
 use Rattle.lane_lock.specs.declared.views.Sight.{Sight}

@@ -1,6 +1,6 @@
-use Rattle.std.proofs.Common.{rules, ap, arith, ◌∙◌}
+use Rattle.std.proofs.Common.{rules, arith}
 use Rattle.lane_lock.specs.Views.{numbered}
-use Rattle.lane_lock.specs.Locks.{view_of, number_of}
+use Rattle.lane_lock.specs.Locks.{view_of}
 use Rattle.lane_lock.proofs.Counting.{Each_map}
 use Rattle.lane_lock.proofs.Trials.{all_from_each, all_there, fresh_number}
 use Rattle.lane_lock.proofs.tests.closed.Goals as goal

@@ -1,4 +1,4 @@
-use Rattle.std.proofs.Common.{rules, ap, sym, subst, ◌∙◌, Some}
+use Rattle.std.proofs.Common.{sym, subst, ◌∙◌}
 use mathlib.Core.Option.{some-injective}
 use Rattle.lane_lock.specs.Grown.{IsGrown}
 use Rattle.lane_lock.proofs.Carried.{not_empty, same_lane}

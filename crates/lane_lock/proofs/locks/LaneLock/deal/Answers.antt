@@ -1,4 +1,4 @@
-use Rattle.std.proofs.Common.{rules, ap, sym, ◌∙◌, arith}
+use Rattle.std.proofs.Common.{rules, ap, arith}
 use Rattle.lane_lock.proofs.Sharing.{splits}
 use Rattle.lane_lock.proofs.locks.LaneLock.deal.Goals as goal
 

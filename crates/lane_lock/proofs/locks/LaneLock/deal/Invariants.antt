@@ -1,7 +1,7 @@
-use Rattle.std.proofs.Common.{◌≡◌, ◌≤◌, ◌+◌, [], map}
+use Rattle.std.proofs.Common.{◌≡◌, ◌≤◌, [], map}
 use Rattle.std.specs.Prelude.{vec_capacity, vec_len}
 use Rattle.lane_lock.specs.Numbers.{Each}
-use Rattle.lane_lock.specs.Locks.{key_of, number_of, IsAt, IsFresh, first_numbers, dealt}
+use Rattle.lane_lock.specs.Locks.{key_of, number_of, IsFresh, first_numbers, dealt}
 use Rattle.lane_lock.proofs.locks.LaneLock.deal.Given as goal
 
 abbrev pub invariant-loop-given : goal.invariant-loop-given

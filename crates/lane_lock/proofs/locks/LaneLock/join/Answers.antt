@@ -1,4 +1,4 @@
-use Rattle.std.proofs.Common.{rules, ap, sym, ◌∙◌}
+use Rattle.std.proofs.Common.{rules}
 use Rattle.lane_lock.proofs.Sharing.{joins, learns}
 use Rattle.lane_lock.proofs.locks.LaneLock.join.Goals as goal
 

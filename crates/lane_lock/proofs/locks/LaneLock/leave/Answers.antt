@@ -1,4 +1,4 @@
-use Rattle.std.proofs.Common.{rules, ap, sym, subst, ◌∙◌, [], ◌∷◌, Some}
+use Rattle.std.proofs.Common.{rules, ap, sym, subst, ◌∙◌, ◌∷◌, Some}
 use Rattle.atomic_table.specs.Table.{rest}
 use Rattle.lane_lock.specs.Views.{leader, is_holding}
 use Rattle.lane_lock.specs.Grown.{MayLeave}
