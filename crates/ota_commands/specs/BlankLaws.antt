@@ -55,10 +55,10 @@ module _ {D B C : Type 0} (told : Meaning D B C) where
     live_once = λ histories long leaves job.
         (let none : flat_map (live_reservations job) histories ≡ [] =
         none_live job histories (λ k below. (
-            let within : k < length sites = omega (arith, below, long) in
-            let site = element_of sites (omega (arith, within)) in
-            let left : MayLeave told (get_or sites k site) k (length sites) (λ moment. moment ≡ clock_of told sites k) (get_or histories k []) = leaves k site within in
-            let now : image_now told (get_or sites k site) left.image = subst (λ (m : ℕ). told.image_at (get_or sites k site) m left.image) (left.when ∙ clock_at told sites k site within) left.at in
-            blank_none k (length sites) (get_or histories k []) left.image (blank.blank k site left.image within now) left.stands)) in
+        let within : k < length sites = omega (arith, below, long) in
+        let site = element_of sites (omega (arith, within)) in
+        let left : MayLeave told (get_or sites k site) k (length sites) (λ moment. moment ≡ clock_of told sites k) (get_or histories k []) = leaves k site within in
+        let now : image_now told (get_or sites k site) left.image = subst (λ (m : ℕ). told.image_at (get_or sites k site) m left.image) (left.when ∙ clock_at told sites k site within) left.at in
+        blank_none k (length sites) (get_or histories k []) left.image (blank.blank k site left.image within now) left.stands)) in
         rw none (omega arith));
   }

@@ -13,8 +13,8 @@ mod reserving;
 mod words;
 mod writing;
 
-pub use laws::blank_sites_are_sound;
 pub use faults::{Fault, Which};
+pub use laws::blank_sites_are_sound;
 pub use plain::{Ended, plain_command};
 pub use words::{Command, Words, read_words};
 

@@ -79,9 +79,7 @@ const CLOSED: &[u8] = &[
 ];
 
 /// The mark and the head of the journal of lane 0 of 1.
-const HEAD_OF_ONE: &[u8] = &[
-    0xA5, 0x4F, 0x54, 0x41, 0x4A, 0x01, 0x00, 0x00, 0x00, 0x01,
-];
+const HEAD_OF_ONE: &[u8] = &[0xA5, 0x4F, 0x54, 0x41, 0x4A, 0x01, 0x00, 0x00, 0x00, 0x01];
 
 /// An open gate, and the batch with the Open of keyset 1 of card 8901 as the plan says, in version 1.
 const OPEN: &[u8] = &[
@@ -726,7 +724,16 @@ fn a_full_journal_takes_no_reservation(rt: HostRuntime) -> Result<(), Fail> {
     let report = text_of(alloc, &[REPORT_HEADER, "2,8901,1,unsettled,-,-\n"])?;
     let journal = nearly_full(alloc)?;
     let full = Fault::Full(0, 16_777_147, 70);
-    assert!(rt; came_to(alloc, &with_jobs(&jobs), &journal, Some(full), &report, 16_777_147)?);
+    assert!(rt;
+        came_to(
+            alloc,
+            &with_jobs(&jobs),
+            &journal,
+            Some(full),
+            &report,
+            16_777_147
+        )?
+    );
     assert_eq!(rt; full.status(), 24);
     Ok(())
 }
