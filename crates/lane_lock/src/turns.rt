@@ -55,7 +55,8 @@ impl<L: Kept> LaneLock<L> {
         unreachable!()
     }
 
-    // Waits until it is the ticket's turn. It yields after each 256 looks, since the turn is often near.
+    // Waits until it is the ticket's turn. It yields after each 16 looks: the turn is often near, but where
+    // there are more threads than processors it may be a thread's that has none.
     fn wait_turn<R: Wait>(&self, rt: &R, inner: &mut Inner<L>, ticket: u64)
         requires of { IsAt self.now inner.old }
         requires waiting { inner.old.me.0.stage ≡ Waiting ticket }
@@ -69,7 +70,7 @@ impl<L: Kept> LaneLock<L> {
                 return;
             }
             looks = looks.wrapping_add(1);
-            if looks == 0 {
+            if looks % 16 == 0 {
                 thread::yield_now();
             } else {
                 spin_loop();
