@@ -1,10 +1,8 @@
 -- What is kept after a piece is kept, or a packet is forgotten, and how long a joined packet is.
-use Rattle.std.proofs.Common.{◌≡◌, ℕ, zero, suc, ◌+◌, ◌-◌, ◌*◌, ◌<◌, ◌≤◌, Bool, true, false, not, ◌≢◌, ◌&&◌, cond, eqb, leb, Option, Some, None, List, [], ◌∷◌, ◌++◌, length, sum_by, refl, sym, ap, subst, ◌∙◌, arith, length-append, add-zero, add-one, inl, inr}
+use Rattle.std.proofs.Common.{◌≡◌, ℕ, zero, suc, ◌+◌, ◌-◌, ◌*◌, ◌<◌, ◌≤◌, Bool, true, false, ◌≢◌, ◌&&◌, cond, eqb, leb, Option, Some, None, List, [], ◌++◌, length, refl, sym, ap, subst, ◌∙◌, arith, length-append, add-zero, add-one, inl, inr}
 use Rattle.std.specs.Prelude.{unwrap_or, IfSome}
-use Rattle.std.specs.Option.{option_map, option_or}
-use Rattle.std.proofs.lemmas.Bool.{and_parts, and_from, and_left, and_right, eqb-true, eq-eqb, ne_eqb, cases_eq, cases_Bool, both_ways, cond-true, cond-false, not_from_true, not_from_false, false_from_ne_true, le-leb, leb-true}
-use Rattle.std.proofs.lemmas.List.Folds.{find-append}
-use Rattle.std.proofs.lemmas.List.Sums.{sum_by-cons}
+use Rattle.std.specs.Option.{option_map}
+use Rattle.std.proofs.lemmas.Bool.{and_parts, and_from, eqb-true, eq-eqb, ne_eqb, cases_eq, cases_Bool, both_ways, false_from_ne_true, le-leb, leb-true}
 use Rattle.ota_core.specs.declared.references.Reference.{Reference}
 use Rattle.ota_core.specs.declared.references.Reference.TheVariants.{Short, Wide}
 use Rattle.sms_segments.specs.declared.concatenations.Concatenation.{Concatenation}
@@ -81,16 +79,17 @@ kept-put-at : {S : Type 0} (m n : HashMap Place (ArrayVec ℕ) S) (at : Place) (
     → (of : Concatenation) (place : ℕ) → kept_in n.entries of place ≡ kept_with at.of at.place piece.items m.entries of place
 kept-put-at m n at piece puts of place = kept-get n of place ∙ ap (option_map (λ piece. piece.items)) (puts (record { of = of; place = place }))
     ∙ by_test (is_same at.of of) (eqb place at.place) (same_place of place at) ∙ apart (is_same at.of of) where
-  apart : (one : Bool) → cond one (cond (eqb place at.place) (Some piece.items) (kept_in m.entries of place)) (kept_in m.entries of place)
-      ≡ cond one (with_piece at.place piece.items (kept_in m.entries of)) (kept_in m.entries of) place
-  apart true = refl
-  apart false = refl
-  by_test : (one here : Bool) → place_eq.ghosts.eq at (record { of = of; place = place }) ≡ (one && here)
-      → option_map (λ piece. piece.items) (cond (place_eq.ghosts.eq at (record { of = of; place = place })) (Some piece) (get place_eq.ghosts.eq m (record { of = of; place = place })))
-      ≡ cond one (cond here (Some piece.items) (kept_in m.entries of place)) (kept_in m.entries of place)
-  by_test true true is = rw is refl
-  by_test true false is = rw is (sym (kept-get m of place))
-  by_test false here is = rw is (sym (kept-get m of place))
+      apart : (one : Bool) → cond one (cond (eqb place at.place) (Some piece.items) (kept_in m.entries of place)) (kept_in m.entries of place)
+          ≡ cond one (with_piece at.place piece.items (kept_in m.entries of)) (kept_in m.entries of) place
+      apart true = refl
+      apart false = refl
+
+      by_test : (one here : Bool) → place_eq.ghosts.eq at (record { of = of; place = place }) ≡ (one && here)
+          → option_map (λ piece. piece.items) (cond (place_eq.ghosts.eq at (record { of = of; place = place })) (Some piece) (get place_eq.ghosts.eq m (record { of = of; place = place })))
+          ≡ cond one (cond here (Some piece.items) (kept_in m.entries of place)) (kept_in m.entries of place)
+      by_test true true is = rw is refl
+      by_test true false is = rw is (sym (kept-get m of place))
+      by_test false here is = rw is (sym (kept-get m of place))
 
 pub kept-put : {S : Type 0} (m n : HashMap Place (ArrayVec ℕ) S) (at : Place) (piece : ArrayVec ℕ)
     → ((key : Place) → get place_eq.ghosts.eq n key ≡ cond (place_eq.ghosts.eq at key) (Some piece) (get place_eq.ghosts.eq m key))
@@ -103,11 +102,11 @@ pub kept-drop : {S : Type 0} (m n : HashMap Place (ArrayVec ℕ) S) (at : Place)
     → (of : Concatenation) (place : ℕ) → kept_in n.entries of place ≡ cond (is_same at.of of && eqb place at.place) None (kept_in m.entries of place)
 kept-drop m n at drops of place = kept-get n of place ∙ ap (option_map (λ piece. piece.items)) (drops (record { of = of; place = place }))
     ∙ by_test (is_same at.of of && eqb place at.place) (same_place of place at) where
-  by_test : (here : Bool) → place_eq.ghosts.eq at (record { of = of; place = place }) ≡ here
-      → option_map (λ piece. piece.items) (cond (place_eq.ghosts.eq at (record { of = of; place = place })) None (get place_eq.ghosts.eq m (record { of = of; place = place })))
-      ≡ cond here None (kept_in m.entries of place)
-  by_test true is = rw is refl
-  by_test false is = rw is (sym (kept-get m of place))
+      by_test : (here : Bool) → place_eq.ghosts.eq at (record { of = of; place = place }) ≡ here
+          → option_map (λ piece. piece.items) (cond (place_eq.ghosts.eq at (record { of = of; place = place })) None (get place_eq.ghosts.eq m (record { of = of; place = place })))
+          ≡ cond here None (kept_in m.entries of place)
+      by_test true is = rw is refl
+      by_test false is = rw is (sym (kept-get m of place))
 
 -- what is kept where the map finds the same
 pub kept-same : {S : Type 0} (m n : HashMap Place (ArrayVec ℕ) S)

@@ -146,12 +146,7 @@ impl KeptPieces {
     }
 
     /// Puts the packet together that the arriving piece makes whole, in a vector that is empty.
-    pub fn join(
-        &self,
-        arrival: &Place,
-        octets: &[u8],
-        packet: &mut Vec<u8>,
-    ) -> Result<(), Memory>
+    pub fn join(&self, arrival: &Place, octets: &[u8], packet: &mut Vec<u8>) -> Result<(), Memory>
         requires fits { FitsAt arrival.now.of arrival.now.place octets.now }
         requires empty { packet.old.items ≡ [] }
         ensures ok { OnOk result (packet.new.items ≡ joined arrival.now.of.total (with_piece arrival.now.place octets.now (kept_in self.now.pieces arrival.now.of))) }

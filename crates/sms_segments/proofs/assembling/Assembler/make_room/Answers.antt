@@ -1,4 +1,3 @@
-use Rattle.std.proofs.Common.{◌≡◌, rules}
 use Rattle.sms_segments.proofs.assembling.Assembler.make_room.Goals as goal
 
 pub returns-in_err-make_room-clause-pieces : goal.returns-in_err-make_room-clause-pieces

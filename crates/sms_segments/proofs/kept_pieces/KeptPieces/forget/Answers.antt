@@ -1,10 +1,10 @@
-use Rattle.std.proofs.Common.{◌≡◌, ℕ, ◌+◌, ◌&&◌, ◌∙◌, ap, cond, eqb, None, rules}
+use Rattle.std.proofs.Common.{◌+◌, ◌&&◌, ◌∙◌, ap, cond, eqb, None, rules}
 use Rattle.std.specs.HashMap.{Updates}
 use Rattle.sms_segments.specs.declared.kept_pieces.Place.{Place}
 use Rattle.sms_segments.specs.contracts.kept_pieces.PlacePartialEq.TheImpl as place_eq
 use Rattle.sms_segments.specs.Assembled.{is_same}
 use Rattle.sms_segments.specs.Kept.{kept_in}
-use Rattle.sms_segments.proofs.KeptLemmas.{kept-drop, drop-more, drop-all, fits-drop}
+use Rattle.sms_segments.proofs.KeptLemmas.{kept-drop, drop-more}
 use Rattle.sms_segments.proofs.kept_pieces.KeptPieces.forget.Goals as goal
 
 pub loop-before-preserved : goal.loop-before-preserved

@@ -1,4 +1,4 @@
-use Rattle.std.proofs.Common.{◌≡◌, ℕ, ◌≤◌, ◌&&◌, nat_lt, nat_le, None, cond}
+use Rattle.std.proofs.Common.{◌≡◌, ℕ, ◌&&◌, nat_le, None, cond}
 use Rattle.sms_segments.specs.declared.concatenations.Concatenation.{Concatenation}
 use Rattle.sms_segments.specs.Assembled.{is_same}
 use Rattle.sms_segments.specs.Kept.{kept_in}

@@ -1,4 +1,4 @@
-use Rattle.std.proofs.Common.{◌≡◌, ◌≤◌, ◌<◌, ℕ, ◌+◌, Some, length, arith, rules, subst, sym}
+use Rattle.std.proofs.Common.{◌≡◌, ◌≤◌, ◌+◌, Some, length, arith, rules, subst, sym}
 use Rattle.sms_segments.specs.Assembled.{Pieces, joined, with_piece}
 use Rattle.sms_segments.specs.Kept.{Holding, kept_in}
 use Rattle.sms_segments.proofs.KeptLemmas.{arrival-small, joined-longest, joined-within}

@@ -1,9 +1,6 @@
-use Rattle.std.proofs.Common.{◌≡◌, rules, Some, IsOk, cond}
-use Rattle.std.specs.HashMap.{Updates, get}
-use Rattle.sms_segments.specs.declared.concatenations.Concatenation.{Concatenation}
-use Rattle.sms_segments.specs.declared.kept_pieces.Place.{Place}
+use Rattle.std.proofs.Common.{◌≡◌, rules, Some}
+use Rattle.std.specs.HashMap.{Updates}
 use Rattle.sms_segments.specs.contracts.kept_pieces.PlacePartialEq.TheImpl as place_eq
-use Rattle.sms_segments.specs.Kept.{AllFit, kept_in, kept_with}
 use Rattle.sms_segments.proofs.KeptLemmas.{at_most-134, kept-put, fits-put}
 use Rattle.sms_segments.proofs.kept_pieces.KeptPieces.keep.Goals as goal
 use Rattle.sms_segments.proofs.kept_pieces.KeptPieces.keep.Goals.{in-Ok, in-Err}

@@ -1,4 +1,3 @@
-use Rattle.std.proofs.Common.{◌≡◌, rules}
 use Rattle.std.specs.HashMap.{IsReordered}
 use Rattle.sms_segments.specs.contracts.kept_pieces.PlacePartialEq.TheImpl as place_eq
 use Rattle.sms_segments.proofs.KeptLemmas.{kept-same, fits-same}
