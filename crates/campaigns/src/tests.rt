@@ -1,0 +1,1 @@
+// Expected octets of the generator come from scripts/drill-vectors.
