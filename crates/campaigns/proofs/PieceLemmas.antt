@@ -10,7 +10,7 @@ use Rattle.senders.specs.declared.pieces.Work.{Work}
 use Rattle.campaigns.specs.WorkList.{lane_of, jobs_of_lane, begins_piece, piece_from, pieces_of}
 use Rattle.campaigns.specs.Batching.{joined}
 
-same_test : (a : ℕ) → (a == a) ≡ true
+pub same_test : (a : ℕ) → (a == a) ≡ true
 same_test a = grind (arith, nat_tests)
 
 other_way : (a b : ℕ) → (a == b) ≡ (b == a)

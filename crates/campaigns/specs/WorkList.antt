@@ -91,4 +91,4 @@ pieces_of lanes size before (job ∷ jobs) =
 
 -- the work list of the jobs, by the histories of the lanes. A piece has at most `batch` jobs, and at least one.
 abbrev pub work_of : Bool → ℕ → List (List Entry) → List Job → List Work
-work_of retry batch histories jobs = pieces_of (length histories) (max 1 batch) [] (remaining_jobs retry histories jobs)
+work_of retry batch histories jobs = pieces_of (length histories) (max batch 1) [] (remaining_jobs retry histories jobs)

@@ -42,16 +42,16 @@ pub(crate) fn in_pieces(
 fn put(
     alloc: Global,
     works: &mut Vec<Work>,
-    ends: &mut [LaneEnd],
+    ends: &mut Vec<LaneEnd>,
     size: usize,
     job: Job,
 ) -> Result<(), Memory>
-    requires lanes { 0 < length ends.old }
-    requires few { length ends.old ≤ 2 ^ 32 }
+    requires lanes { 0 < length ends.old.items }
+    requires few { length ends.old.items ≤ 2 ^ 32 }
     requires size { 0 < size }
-    requires there { 0 < (get_or ends.old (lane_of (length ends.old) job) no_piece).room → (get_or ends.old (lane_of (length ends.old) job) no_piece).piece < length works.old.items }
-    ensures works { OnOk result (works.new.items ≡ works_with (lane_of (length ends.old) job) job (get_or ends.old (lane_of (length ends.old) job) no_piece) works.old.items) }
-    ensures ends { ends.new ≡ set ends.old (lane_of (length ends.old) job) (end_behind size (length works.old.items) (get_or ends.old (lane_of (length ends.old) job) no_piece)) }
+    requires there { 0 < (get_or ends.old.items (lane_of (length ends.old.items) job) no_piece).room → (get_or ends.old.items (lane_of (length ends.old.items) job) no_piece).piece < length works.old.items }
+    ensures works { OnOk result (works.new.items ≡ works_with (lane_of (length ends.old.items) job) job (get_or ends.old.items (lane_of (length ends.old.items) job) no_piece) works.old.items) }
+    ensures ends { ends.new.items ≡ set ends.old.items (lane_of (length ends.old.items) job) (end_behind size (length works.old.items) (get_or ends.old.items (lane_of (length ends.old.items) job) no_piece)) }
 {
     let lane = lane_of(job.keyset.card, ends.len());
     let end = ends[lane];

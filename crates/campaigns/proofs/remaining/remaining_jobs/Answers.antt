@@ -9,8 +9,11 @@ use Rattle.campaigns.proofs.remaining.remaining_jobs.Goals as goal
 pub loop-place-preserved : goal.loop-place-preserved
 loop-place-preserved c = record {
   list = λ histories are.
-      rw (c.in_ok-put_if_remaining.ensures.list (history_for histories c.index-jobs-place.result) (stands histories are), c.loop-place.invariant.list histories are,
-      c.loop-place.invariant.counts histories are c.index-jobs-place.result.keyset)
+      rw (
+        c.in_ok-put_if_remaining.ensures.list (history_for histories c.index-jobs-place.result) (stands histories are),
+        c.loop-place.invariant.list histories are,
+        c.loop-place.invariant.counts histories are c.index-jobs-place.result.keyset,
+      )
       (sym (remaining_more c.args.retry histories c.args.jobs.now c.loop-place.place c.index-jobs-place.result c.loop-place-test.true c.index-jobs-place.is));
   counts = λ histories are keyset.
       rw (c.in_ok-put_if_remaining.ensures.counts (history_for histories c.index-jobs-place.result) (stands histories are) keyset, c.loop-place.invariant.counts histories are keyset)
