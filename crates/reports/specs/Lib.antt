@@ -1,3 +1,9 @@
 pub mod Report
 pub mod Note
 pub mod Packets
+pub mod Places
+pub mod Summary
+pub mod Times
+pub mod Cards
+pub mod Counting
+pub mod Later

@@ -4,7 +4,7 @@ use Rattle.std.specs.Prelude.{ℕ, ◌%◌, ◌≤◌, nat_lt, if◌then◌else�
 use Rattle.std.specs.List.{flat_map, range_with_len}
 use Rattle.std.specs.Fmt.{decimal}
 use Rattle.hex.specs.Hex.{encode_lower}
-use Rattle.ota_core.specs.Questions.{Reserved, reserved_under, opened_facts}
+use Rattle.ota_core.specs.Questions.{Reserved, last_reserved, opened_facts}
 use Rattle.ota_core.specs.Outcome.{outcome_of}
 use Rattle.ota_core.specs.declared.jobs.Job.{Job}
 use Rattle.ota_core.specs.declared.jobs.JobId.{JobId}
@@ -61,20 +61,15 @@ abbrev pub lines_of_reserved : JobId → Reserved → Option KeysetFacts → Lis
 lines_of_reserved id reserved None = []
 lines_of_reserved id reserved (Some facts) = lines_of_packet id reserved.counter (reference_of reserved) (packet_for facts reserved)
 
--- the same, where anything is reserved
-abbrev pub lines_if_reserved : List Entry → JobId → Option Reserved → List ℕ
-lines_if_reserved history id None = []
-lines_if_reserved history id (Some reserved) = lines_of_reserved id reserved (opened_facts reserved.keyset history)
+-- the lines of a job, by what has become of it and by what is reserved for it last: those of its packet where it is
+-- unsettled with a counter
+abbrev pub lines_for : List Entry → JobId → Outcome → Option Reserved → List ℕ
+lines_for history id (Unsettled keyset counter) (Some reserved) = lines_of_reserved id reserved (opened_facts reserved.keyset history)
+lines_for history id _ _ = []
 
--- the lines of a job, by the history of its keyset's lane: those of its packet where it is unsettled with a counter
-abbrev pub lines_for : List Entry → JobId → Outcome → List ℕ
-lines_for history id (Unsettled keyset counter) =
-    lines_if_reserved history id (reserved_under (record { keyset = keyset; counter = counter }) (reverse history))
-lines_for history id _ = []
-
--- the lines of a job, by what has become of it
+-- the lines of a job, by the history of its keyset's lane
 abbrev pub lines_of_job : List Entry → JobId → List ℕ
-lines_of_job history id = lines_for history id (outcome_of history id)
+lines_of_job history id = lines_for history id (outcome_of history id) (last_reserved id (reverse history))
 
 -- the text of the packets of the jobs by the histories of the lanes
 abbrev pub packets_of : List Job → List (List Entry) → List ℕ

@@ -2,12 +2,23 @@
 //! an answer.
 #![tactic(auto)]
 
+mod cards;
+mod keyset_counts;
+mod lane_books;
+mod lane_indexes;
+mod later_keysets;
 mod notes;
 mod packets;
+mod places;
 mod report;
+mod summary;
+mod times;
 
+pub use cards::cards_text;
 pub use packets::packet_text;
 pub use report::report_text;
+pub use summary::summary_text;
+pub use times::times_text;
 
 #[cfg(test)]
 mod tests;

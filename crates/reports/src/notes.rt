@@ -4,12 +4,12 @@ ghost use Rattle.ota_core.specs.History.{next_counter};
 ghost use Rattle.reports.specs.Report.{note_of, open_note};
 ghost use Rattle.reports.specs.Note.{note_text};
 
-use ota_core::questions::{keyset_state, last_counter};
-use ota_core::{Entry, KeysetId, KeysetState};
+use crate::lane_books::LaneBook;
+use ota_core::{KeysetId, KeysetState};
 
 /// Why no reservation of the keyset stands.
 #[derive(Clone, Copy)]
-pub enum Note {
+pub(crate) enum Note {
     /// The history has no Open of it.
     New,
     Closed,
@@ -23,20 +23,20 @@ pub enum Note {
 const LAST_COUNTER: u64 = 0xFF_FFFF_FFFE;
 
 /// How the keyset stands for a job without a reservation.
-pub fn unreserved_note(entries: &[Entry], keyset: KeysetId) -> Note
-    ensures { note_text result ≡ note_of keyset (reverse entries.now) }
+pub(crate) fn unreserved_note(lane: &LaneBook<'_>, keyset: KeysetId) -> Note
+    ensures { note_text result ≡ note_of keyset (reverse lane.now) }
 {
-    match keyset_state(entries, keyset) {
+    match lane.keyset_state(keyset) {
         KeysetState::New => Note::New,
         KeysetState::Closed => Note::Closed,
-        KeysetState::Open => open_note(entries, keyset),
+        KeysetState::Open => open_note(lane, keyset),
     }
 }
 
-fn open_note(entries: &[Entry], keyset: KeysetId) -> Note
-    ensures { note_text result ≡ open_note (next_counter keyset (reverse entries.now)) }
+fn open_note(lane: &LaneBook<'_>, keyset: KeysetId) -> Note
+    ensures { note_text result ≡ open_note (next_counter keyset (reverse lane.now)) }
 {
-    match last_counter(entries, keyset) {
+    match lane.last_counter(keyset) {
         Some(last) if last.0 >= LAST_COUNTER => Note::Exhausted,
         _ => Note::Open,
     }

@@ -3,18 +3,19 @@ ghost use Rattle.std.specs.Bool.{OnTrue};
 ghost use Rattle.std.specs.Option.{option_copied, option_map, option_map_or};
 ghost use Rattle.std.specs.Fmt.{decimal};
 ghost use Rattle.ota_core.specs.Outcome.{settled_by};
-ghost use Rattle.ota_core.specs.Questions.{reserved_under};
+ghost use Rattle.ota_core.specs.Questions.{place_of};
 ghost use Rattle.sms_segments.specs.Cut.{pieces_count};
 ghost use Rattle.sms_segments.specs.Header.{is_wide_reference};
 ghost use Rattle.reports.specs.Report.{counter_text, entries_in};
-ghost use Rattle.reports.specs.Packets.{HasBody, packet_header, packet_for, reference_of, message_line, lines_of_packet, lines_of_reserved, lines_if_reserved, lines_for, lines_of_job, packets_of};
+ghost use Rattle.reports.specs.Packets.{HasBody, packet_header, packet_for, reference_of, message_line, lines_of_packet, lines_of_reserved, lines_for, lines_of_job, packets_of};
 
-use crate::report::{history_of, put_counter, put_hex};
+use crate::lane_books::LaneBook;
+use crate::lane_indexes::{LaneIndex, index_of, lane_indexes};
+use crate::report::{put_counter, put_hex};
 use aes_modes::Keys;
 use command_packet::{PacketBuf, build_in};
-use ota_core::questions::{last_reservation, opened_facts, reserved_under, settlement};
 use ota_core::{
-    Counter, Entry, History, Job, JobId, KeysetFacts, Memory, Reference, Reservation, Reserved, Spi,
+    Counter, Entry, History, Job, JobId, KeysetFacts, Memory, Reference, Reserved, Spi,
 };
 use sms_segments::{is_wide_reference, piece, pieces_of};
 use std::alloc::Global;
@@ -30,11 +31,12 @@ pub fn packet_text(alloc: Global, jobs: &[Job], histories: &[History]) -> Result
     requires bodies { All (λ history. All HasBody history.entries) histories.now }
     ensures { IfOk result (λ text. string_bytes text ≡ packets_of jobs.now (map entries_in histories.now)) }
 {
+    let lanes = lane_indexes(alloc, histories)?;
     let mut text = String::from_str(alloc, packet_header())?;
     let mut packet = PacketBuf::new();
     for job in jobs {
-        let entries = history_of(histories, &job.keyset);
-        put_job_lines(&mut text, &mut packet, entries, job.id)?;
+        let lane = index_of(&lanes, job.keyset);
+        put_job_lines(&mut text, &mut packet, lane, job.id)?;
     }
     Ok(text)
 }
@@ -47,63 +49,44 @@ fn packet_header() -> &'static str
 }
 
 /// The lines of a job. `packet` is room for its packet.
+#[tactic(auto, using(crate::proofs::PacketLemmas::lines_reserved, crate::proofs::PacketLemmas::lines_new))]
 fn put_job_lines(
     text: &mut String,
     packet: &mut PacketBuf,
-    entries: &[Entry],
+    lane: &LaneIndex<'_>,
     job: JobId,
 ) -> Result<(), Memory>
-    requires { All HasBody entries.now }
-    ensures { OnOk result (string_bytes text.new ≡ string_bytes text.old ++ lines_of_job entries.now job) }
+    requires { All HasBody lane.now }
+    ensures { OnOk result (string_bytes text.new ≡ string_bytes text.old ++ lines_of_job lane.now job) }
 {
-    match last_reservation(entries, job) {
+    match lane.last_reserved(job) {
         None => Ok(()),
-        Some(place) => put_by_settlement(
-            text,
-            packet,
-            entries,
-            job,
-            place,
-            settlement(entries, place),
-        ),
+        Some(reserved) => {
+            let settled = lane.settlement(reserved.place());
+            put_if_unsettled(text, packet, lane.book(), job, &reserved, settled)
+        }
     }
 }
 
-/// The lines of a job's reservation, by the entry that settles it.
-fn put_by_settlement(
+/// The lines of what is reserved, by the entry that settles it.
+fn put_if_unsettled(
     text: &mut String,
     packet: &mut PacketBuf,
-    entries: &[Entry],
+    lane: &LaneBook<'_>,
     job: JobId,
-    place: Reservation,
+    reserved: &Reserved<'_>,
     settled: Option<&Entry>,
 ) -> Result<(), Memory>
-    requires { All HasBody entries.now }
-    ensures { OnOk result (string_bytes text.new ≡ string_bytes text.old ++ lines_for entries.now job (settled_by place (option_copied settled.entry))) }
+    requires some { 1 ≤ length reserved.now.body }
+    requires fits { length reserved.now.body ≤ 4096 }
+    ensures { OnOk result (string_bytes text.new ≡ string_bytes text.old ++ lines_for lane.now job (settled_by (place_of reserved.now) (option_copied settled.entry)) (Some reserved.now)) }
 {
     match settled {
         Some(Entry::Done { .. }) => Ok(()),
         Some(Entry::Refused { .. }) => Ok(()),
-        _ => put_unsettled(text, packet, entries, job, place),
-    }
-}
-
-/// The lines of a counter that nothing settles.
-fn put_unsettled(
-    text: &mut String,
-    packet: &mut PacketBuf,
-    entries: &[Entry],
-    job: JobId,
-    place: Reservation,
-) -> Result<(), Memory>
-    requires { All HasBody entries.now }
-    ensures { OnOk result (string_bytes text.new ≡ string_bytes text.old ++ lines_if_reserved entries.now job (reserved_under place (reverse entries.now))) }
-{
-    match reserved_under(entries, place) {
-        None => Ok(()),
-        Some(reserved) => {
-            let facts = opened_facts(entries, reserved.keyset);
-            put_reserved(text, packet, job, &reserved, facts)
+        _ => {
+            let facts = lane.opened_facts(reserved.keyset);
+            put_reserved(text, packet, job, reserved, facts)
         }
     }
 }

@@ -3,25 +3,28 @@ ghost use Rattle.std.specs.Option.{option_copied};
 ghost use Rattle.hex.specs.Hex.{encode_lower};
 ghost use Rattle.ota_core.specs.Outcome.{settled_by, outcome_of};
 ghost use Rattle.reports.specs.Note.{note_text};
-ghost use Rattle.reports.specs.Report.{report_of, header, unreserved, row_of, note_of, job_text, outcome_text, counter_text, answer_text, entries_in, history_of};
+ghost use Rattle.reports.specs.Report.{report_of, header, unreserved, row_of, note_of, job_text, outcome_text, counter_text, answer_text, entries_in};
 
+use crate::lane_indexes::{LaneIndex, index_of, lane_indexes};
 use crate::notes::{Note, unreserved_note};
-use ota_core::questions::{last_reservation, settlement};
-use ota_core::{Counter, Entry, History, Job, KeysetId, Memory, Reservation};
+use ota_core::{Counter, Entry, History, Job, Memory, Reservation};
 use std::alloc::Global;
 
 /// The report of the jobs, by the histories of the lanes in their order.
 ///
 /// It has a line for its columns, `job,card,kvn,outcome,counter,note`, and then a line for each job, in order of
-/// the jobs. A job stands by the history of its keyset's lane.
+/// the jobs. A job stands by the history of its keyset's lane, and by its last reservation there: `done` with the card's
+/// answer, `refused` with the status, or `unsettled`, each with the counter in ten hexadecimal digits. A job without a
+/// reservation is `unsettled` with a dash, and the note says why: `new`, `closed`, `exhausted`, or a dash where a counter
+/// may be reserved.
 pub fn report_text(alloc: Global, jobs: &[Job], histories: &[History]) -> Result<String, Memory>
     requires { 0 < length histories.now }
     ensures { IfOk result (λ text. string_bytes text ≡ report_of jobs.now (map entries_in histories.now)) }
 {
+    let lanes = lane_indexes(alloc, histories)?;
     let mut text = String::from_str(alloc, header())?;
     for job in jobs {
-        let entries = history_of(histories, &job.keyset);
-        put_row(&mut text, entries, job)?;
+        put_row(&mut text, index_of(&lanes, job.keyset), job)?;
     }
     Ok(text)
 }
@@ -33,30 +36,22 @@ fn header() -> &'static str
     "job,card,kvn,outcome,counter,note\n"
 }
 
-pub(crate) fn history_of<'a>(histories: &'a [History], keyset: &KeysetId) -> &'a [Entry]
-    requires { 0 < length histories.now }
-    ensures { result.now ≡ history_of (map entries_in histories.now) keyset.now.card }
-{
-    let lane = keyset.card.0 % histories.len() as u64;
-    histories[lane as usize].entries()
-}
-
-fn put_row(text: &mut String, entries: &[Entry], job: &Job) -> Result<(), Memory>
-    ensures { OnOk result (string_bytes text.new ≡ string_bytes text.old ++ row_of entries.now job.now) }
+fn put_row(text: &mut String, lane: &LaneIndex<'_>, job: &Job) -> Result<(), Memory>
+    ensures { OnOk result (string_bytes text.new ≡ string_bytes text.old ++ row_of lane.now job.now) }
 {
     put_job(text, job)?;
-    put_outcome(text, entries, job)?;
+    put_outcome(text, lane, job)?;
     text.push_str("\n")?;
     Ok(())
 }
 
 #[tactic(auto, using(crate::proofs::OutcomeText::outcome_text_reserved, crate::proofs::OutcomeText::outcome_text_new))]
-fn put_outcome(text: &mut String, entries: &[Entry], job: &Job) -> Result<(), Memory>
-    ensures { OnOk result (string_bytes text.new ≡ string_bytes text.old ++ outcome_text (note_of job.now.keyset (reverse entries.now)) (outcome_of entries.now job.now.id)) }
+fn put_outcome(text: &mut String, lane: &LaneIndex<'_>, job: &Job) -> Result<(), Memory>
+    ensures { OnOk result (string_bytes text.new ≡ string_bytes text.old ++ outcome_text (note_of job.now.keyset (reverse lane.now)) (outcome_of lane.now job.now.id)) }
 {
-    match last_reservation(entries, job.id) {
-        None => put_unreserved(text, unreserved_note(entries, job.keyset)),
-        Some(place) => put_reserved(text, place, settlement(entries, place)),
+    match lane.book().last_reservation(job.id) {
+        None => put_unreserved(text, unreserved_note(lane.book(), job.keyset)),
+        Some(place) => put_reserved(text, place, lane.settlement(place)),
     }
 }
 

@@ -4,10 +4,10 @@ ghost use Rattle.std.specs.Prelude.{◌≤◌, All};
 ghost use Rattle.std.specs.Bool.{OnTrue};
 ghost use Rattle.reports.specs.Packets.{HasBody};
 
-use crate::packet_text;
+use crate::{cards_text, packet_text, report_text, summary_text, times_text};
 use ota_core::{
-    CardId, Counter, Entry, History, Job, JobId, KeyBytes, KeysetFacts, KeysetId, Memory, Mode,
-    Octets, Tar,
+    CardFacts, CardId, Counter, Entry, History, Job, JobId, KeyBytes, KeysetFacts, KeysetId,
+    KeysetList, Memory, Mode, Octets, Tar,
 };
 use std::alloc::Global;
 use std::test::Fail;
@@ -37,16 +37,20 @@ fn keyset(kvn: u8) -> KeysetId
     }
 }
 
-fn opened(keyset: KeysetId, base: Counter, mode: Mode, ciphered: bool) -> Result<Entry, Fail> {
+fn facts(base: Counter, mode: Mode, ciphered: bool) -> Result<KeysetFacts, Fail> {
     let kic = KeyBytes::new(&KIC).ok().ok_or("a key has 16 octets")?;
     let kid = KeyBytes::new(&KID).ok().ok_or("a key has 16 octets")?;
-    let facts = KeysetFacts {
+    Ok(KeysetFacts {
         base,
         mode,
         ciphered,
         kic,
         kid,
-    };
+    })
+}
+
+fn opened(keyset: KeysetId, base: Counter, mode: Mode, ciphered: bool) -> Result<Entry, Fail> {
+    let facts = facts(base, mode, ciphered)?;
     Ok(Entry::Open {
         by: 0,
         moment: 0,
@@ -75,8 +79,8 @@ fn reserved(
     })
 }
 
-fn done(alloc: Global, keyset: KeysetId, counter: Counter) -> Result<Entry, Memory> {
-    let answer = Octets::from_slice(alloc, &[0x03, 0x69, 0x81])?;
+fn done(alloc: Global, keyset: KeysetId, counter: Counter, answer: &[u8]) -> Result<Entry, Memory> {
+    let answer = Octets::from_slice(alloc, answer)?;
     Ok(Entry::Done {
         by: 1,
         moment: 0,
@@ -175,7 +179,10 @@ fn only_unsettled_reservations_are_sent(rt: HostRuntime) -> Result<(), Fail> {
         &mut history,
         reserved(alloc, first, Counter(2), 2, &SCRIPT)?,
     )?;
-    add(&mut history, done(alloc, first, Counter(2))?)?;
+    add(
+        &mut history,
+        done(alloc, first, Counter(2), &[0x03, 0x69, 0x81])?,
+    )?;
     add(
         &mut history,
         reserved(alloc, first, Counter(3), 3, &SCRIPT)?,
@@ -239,5 +246,305 @@ fn a_long_script_is_sent_under_a_wide_reference(rt: HostRuntime) -> Result<(), F
     assert_eq!(rt; text.len(), 2369);
     assert!(rt; text.as_str().starts_with(front));
     assert!(rt; text.as_str().ends_with(back));
+    Ok(())
+}
+
+fn keyset_of(card: u64, kvn: u8) -> KeysetId
+    requires above { 1 ≤ kvn }
+    requires below { kvn ≤ 15 }
+{
+    KeysetId {
+        card: CardId(card),
+        kvn,
+    }
+}
+
+// The reservation of a job of a named campaign, at a moment.
+fn named(
+    alloc: Global,
+    moment: u64,
+    counter: Counter,
+    job: u32,
+    name: &[u8],
+) -> Result<Entry, Memory> {
+    Ok(Entry::Reserve {
+        by: 1,
+        moment,
+        keyset: keyset(1),
+        counter,
+        job: JobId { campaign: 7, job },
+        tar: TAR,
+        name: Octets::from_slice(alloc, name)?,
+        body: Octets::from_slice(alloc, &SCRIPT)?,
+    })
+}
+
+// Card 8901 with keyset 1, of which job 1 is done under the last counter; job 2 finds none.
+fn exhausted(alloc: Global) -> Result<History, Fail> {
+    let first = keyset(1);
+    let mut history = History::new(alloc);
+    add(
+        &mut history,
+        opened(first, Counter(0xFF_FFFF_FFFD), Mode::Higher, true)?,
+    )?;
+    add(
+        &mut history,
+        reserved(alloc, first, Counter(0xFF_FFFF_FFFE), 1, &SCRIPT)?,
+    )?;
+    add(
+        &mut history,
+        done(alloc, first, Counter(0xFF_FFFF_FFFE), &[0x03, 0x90, 0x00])?,
+    )?;
+    Ok(history)
+}
+
+#[test]
+fn no_jobs_give_the_lines_of_columns(rt: HostRuntime) -> Result<(), Fail> {
+    let alloc = rt.alloc();
+    let histories = [History::new(alloc)];
+    assert_eq!(rt;
+        report_text(alloc, &[], &histories)?.as_str(),
+        "job,card,kvn,outcome,counter,note\n"
+    );
+    assert_eq!(rt;
+        summary_text(alloc, &[], &histories)?.as_str(),
+        "jobs 0 done 0 refused 0 unsettled 0\n"
+    );
+    assert_eq!(rt;
+        text_of(alloc, &[], &histories)?.as_str(),
+        "job,counter,place,octets\n"
+    );
+    assert_eq!(rt;
+        times_text(alloc, &[], &histories)?.as_str(),
+        "job,name,reserved,settled\n"
+    );
+    assert_eq!(rt;
+        cards_text(alloc, &[], &[], &histories)?.as_str(),
+        "card,kvn,lane,state,last,reserved,done,refused,unsettled\n"
+    );
+    Ok(())
+}
+
+#[test]
+fn an_exhausted_keyset_is_noted(rt: HostRuntime) -> Result<(), Fail> {
+    let alloc = rt.alloc();
+    let first = keyset(1);
+    let histories = [exhausted(alloc)?];
+    let jobs = vec![in alloc; job(alloc, first, 1)?, job(alloc, first, 2)?]?;
+    assert_eq!(rt;
+        report_text(alloc, &jobs, &histories)?.as_str(),
+        "job,card,kvn,outcome,counter,note\n1,8901,1,done,fffffffffe,039000\n2,8901,1,unsettled,-,exhausted\n"
+    );
+    assert_eq!(rt;
+        summary_text(alloc, &jobs, &histories)?.as_str(),
+        "jobs 2 done 1 refused 0 unsettled 1\n"
+    );
+    Ok(())
+}
+
+// Of two lanes: on the first keysets 1 and 2 of card 8900, of which the second is closed, and on the second card 8901.
+#[test]
+fn each_outcome_has_its_line(rt: HostRuntime) -> Result<(), Fail> {
+    let alloc = rt.alloc();
+    let open = keyset_of(8900, 1);
+    let closed = keyset_of(8900, 2);
+    let mut history = History::new(alloc);
+    add(&mut history, opened(open, Counter(0), Mode::Higher, true)?)?;
+    add(&mut history, opened(closed, Counter(15), Mode::Next, true)?)?;
+    add(
+        &mut history,
+        reserved(alloc, open, Counter(1), 4294967295, &SCRIPT)?,
+    )?;
+    add(&mut history, refused(open, Counter(1)))?;
+    add(&mut history, reserved(alloc, open, Counter(2), 2, &SCRIPT)?)?;
+    add(&mut history, done(alloc, open, Counter(2), &[])?)?;
+    add(
+        &mut history,
+        reserved(alloc, closed, Counter(16), 3, &SCRIPT)?,
+    )?;
+    add(
+        &mut history,
+        Entry::Close {
+            by: 0,
+            moment: 0,
+            keyset: closed,
+        },
+    )?;
+    let histories = [history, History::new(alloc)];
+    let jobs = vec![in alloc;
+        job(alloc, open, 2)?,
+        job(alloc, open, 4294967295)?,
+        job(alloc, closed, 3)?,
+        job(alloc, closed, 4)?,
+        job(alloc, open, 5)?,
+        job(alloc, keyset(1), 2)?,
+    ]?;
+    assert_eq!(rt;
+        report_text(alloc, &jobs, &histories)?.as_str(),
+        "job,card,kvn,outcome,counter,note\n2,8900,1,done,0000000002,-\n4294967295,8900,1,refused,0000000001,09\n3,8900,2,unsettled,0000000010,-\n4,8900,2,unsettled,-,closed\n5,8900,1,unsettled,-,-\n2,8901,1,unsettled,-,new\n"
+    );
+    assert_eq!(rt;
+        summary_text(alloc, &jobs, &histories)?.as_str(),
+        "jobs 6 done 1 refused 1 unsettled 4\n"
+    );
+    Ok(())
+}
+
+#[test]
+fn a_job_has_the_times_of_its_last_reservation(rt: HostRuntime) -> Result<(), Fail> {
+    let alloc = rt.alloc();
+    let first = keyset(1);
+    let mut history = History::new(alloc);
+    add(&mut history, opened(first, Counter(0), Mode::Higher, true)?)?;
+    add(&mut history, named(alloc, 40, Counter(1), 1, b"winter")?)?;
+    add(
+        &mut history,
+        Entry::Refused {
+            by: 1,
+            moment: 45,
+            keyset: first,
+            counter: Counter(1),
+            status: 7,
+        },
+    )?;
+    add(&mut history, named(alloc, 50, Counter(2), 1, b"spring")?)?;
+    add(
+        &mut history,
+        Entry::Done {
+            by: 1,
+            moment: 50,
+            keyset: first,
+            counter: Counter(2),
+            answer: Octets::from_slice(alloc, &[0x03, 0x90, 0x00])?,
+        },
+    )?;
+    add(
+        &mut history,
+        named(
+            alloc,
+            18446744073709551615,
+            Counter(3),
+            2,
+            b"a,Z_09/z~@[`{:",
+        )?,
+    )?;
+    add(
+        &mut history,
+        named(alloc, 18446744073709551615, Counter(4), 3, b"")?,
+    )?;
+    let jobs = vec![in alloc;
+        job(alloc, first, 1)?,
+        job(alloc, first, 2)?,
+        job(alloc, first, 3)?,
+        job(alloc, first, 4)?,
+    ]?;
+    assert_eq!(rt;
+        times_text(alloc, &jobs, &[history])?.as_str(),
+        "job,name,reserved,settled\n1,spring,50,50\n2,a?Z_09?z??????,18446744073709551615,-\n3,-,18446744073709551615,-\n4,-,-,-\n"
+    );
+    Ok(())
+}
+
+fn card(number: u64, keysets: KeysetList) -> CardFacts {
+    CardFacts {
+        card: CardId(number),
+        buffer: 1024,
+        rfm: TAR,
+        ram: Tar([0x00, 0x00, 0x00]),
+        keysets,
+        wide: false,
+    }
+}
+
+// Card 8901 with keysets 1 and 3 and, later, 2; card 8902 with keyset 1, on the first of two lanes.
+#[test]
+fn keysets_stand_card_by_card(rt: HostRuntime) -> Result<(), Fail> {
+    let alloc = rt.alloc();
+    let first = keyset(1);
+    let mut history = History::new(alloc);
+    add(
+        &mut history,
+        opened(first, Counter(0xA), Mode::Higher, true)?,
+    )?;
+    add(
+        &mut history,
+        reserved(alloc, first, Counter(0xB), 1, &SCRIPT)?,
+    )?;
+    add(&mut history, refused(first, Counter(0xB)))?;
+    add(
+        &mut history,
+        reserved(alloc, first, Counter(0xC), 1, &SCRIPT)?,
+    )?;
+    add(
+        &mut history,
+        reserved(alloc, first, Counter(0xD), 2, &SCRIPT)?,
+    )?;
+    add(
+        &mut history,
+        done(alloc, first, Counter(0xC), &[0x01, 0x90, 0x00])?,
+    )?;
+    add(
+        &mut history,
+        reserved(alloc, first, Counter(0xE), 3, &SCRIPT)?,
+    )?;
+    add(
+        &mut history,
+        opened(keyset(3), Counter(0x2A), Mode::Higher, true)?,
+    )?;
+    add(
+        &mut history,
+        Entry::Close {
+            by: 0,
+            moment: 0,
+            keyset: keyset(3),
+        },
+    )?;
+    let mut keysets = KeysetList::new(alloc);
+    keysets.push(3, facts(Counter(0x2A), Mode::Higher, true)?)?;
+    keysets.push(1, facts(Counter(0xA), Mode::Higher, true)?)?;
+    let mut others = KeysetList::new(alloc);
+    others.push(1, facts(Counter(0xFF_FFFF_FFFF), Mode::Higher, true)?)?;
+    let cards = [card(8901, keysets), card(8902, others)];
+    let later = [
+        (keyset_of(8902, 9), facts(Counter(0), Mode::Higher, true)?),
+        (keyset_of(8901, 2), facts(Counter(0), Mode::Higher, true)?),
+        (keyset_of(8902, 2), facts(Counter(0), Mode::Higher, true)?),
+    ];
+    assert_eq!(rt;
+        cards_text(alloc, &cards, &later, &[History::new(alloc), history])?.as_str(),
+        "card,kvn,lane,state,last,reserved,done,refused,unsettled\n8901,3,1,closed,000000002a,0,0,0,0\n8901,1,1,open,000000000e,4,1,1,2\n8901,2,1,new,0000000000,0,0,0,0\n8902,1,0,new,ffffffffff,0,0,0,0\n8902,9,0,new,0000000000,0,0,0,0\n8902,2,0,new,0000000000,0,0,0,0\n"
+    );
+    Ok(())
+}
+
+#[test]
+fn a_reserved_job_is_in_every_text(rt: HostRuntime) -> Result<(), Fail> {
+    let alloc = rt.alloc();
+    let first = keyset(1);
+    let mut history = History::new(alloc);
+    add(&mut history, opened(first, Counter(0), Mode::Higher, true)?)?;
+    add(
+        &mut history,
+        reserved(alloc, first, Counter(1), 1, &SCRIPT)?,
+    )?;
+    let histories = [history];
+    let jobs = vec![in alloc; job(alloc, first, 1)?]?;
+    let mut keysets = KeysetList::new(alloc);
+    keysets.push(1, facts(Counter(0), Mode::Higher, true)?)?;
+    assert_eq!(rt;
+        report_text(alloc, &jobs, &histories)?.as_str(),
+        "job,card,kvn,outcome,counter,note\n1,8901,1,unsettled,0000000001,-\n"
+    );
+    let packets = text_of(alloc, &jobs, &histories)?;
+    assert!(rt;
+        packets
+            .as_str()
+            .starts_with("job,counter,place,octets\n1,0000000001,1,")
+    );
+    assert_eq!(rt; packets.len(), 25 + 15 + 122 + 1);
+    assert_eq!(rt;
+        cards_text(alloc, &[card(8901, keysets)], &[], &histories)?.as_str(),
+        "card,kvn,lane,state,last,reserved,done,refused,unsettled\n8901,1,0,open,0000000001,1,0,0,1\n"
+    );
     Ok(())
 }

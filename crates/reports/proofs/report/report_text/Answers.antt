@@ -5,6 +5,6 @@ use Rattle.reports.proofs.report.report_text.Goals as goal
 
 pub loop-job-preserved : goal.loop-job-preserved
 loop-job-preserved c =
-    rw (c.in_ok-put_row.ensures, c.history_of-entries.ensures)
+    rw (c.in_ok-put_row.ensures, c.index_of.ensures, c.deref.ensures.value, c.in_ok-lanes.ensures)
     (one_row_more (λ job. row_of (history_of (map entries_in c.args.histories.now) job.keyset.card) job) header (string_bytes c.loop-job.text)
     c.args.jobs.now c.loop-job.job-index c.job-item.result c.loop-job-test.true c.job-item.is c.loop-job.invariant)

@@ -1,0 +1,4 @@
+pub mod DrillLemmas
+pub mod PieceLemmas
+pub mod PlacingLemmas
+pub mod RemainingLemmas

@@ -1,0 +1,3 @@
+pub mod WorkList
+pub mod Batching
+pub mod Drill
