@@ -1,7 +1,7 @@
 -- Children are read one behind the other.
-use Rattle.std.proofs.Common.{◌≡◌, ◌⊎◌, inl, inr, ℕ, suc, ◌+◌, ◌<◌, ◌≤◌, ◌==◌, ◌||◌, true, false, cond, List, [], ◌∷◌, ◌++◌, length, refl, sym, subst, ap, ◌∙◌, arith}
+use Rattle.std.proofs.Common.{◌≡◌, ℕ, ◌==◌, ◌||◌, true, false, cond, List, [], ◌∷◌, ◌++◌, length, refl, sym, subst, arith}
 use Rattle.apdu_codec.specs.Apdu.{data_len_of}
-use Rattle.expanded_scripts.specs.Template.{HasValue, IsWhole, IsCommand, IsChild, AreChildren, IsOuter, IsTemplate, AreWhole}
+use Rattle.expanded_scripts.specs.Template.{IsWhole, IsCommand, IsChild, AreChildren, IsOuter, IsTemplate, AreWhole}
 use Rattle.expanded_scripts.specs.Template.IsCommand.{header_alone, whole, with_le}
 
 zero-data : (ins : ℕ) → ◌≡◌ {A = ℕ} 0 (data_len_of ins 0)

@@ -1,6 +1,6 @@
 pub mod Entries
 pub mod Forms
 pub mod Grammar
-pub mod Once
 pub mod ReadBack
+pub mod TemplateLaws
 pub mod Values

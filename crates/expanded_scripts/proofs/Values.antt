@@ -1,10 +1,10 @@
 -- A length is read as it is spelled, and so the value behind it.
-use Rattle.std.proofs.Common.{◌≡◌, ℕ, suc, ◌+◌, ◌*◌, ◌<◌, ◌≤◌, ◌==◌, nat_lt, Bool, true, false, cond, Option, Some, None, List, [], ◌∷◌, ◌++◌, length, take, drop, refl, sym, subst, ap, ◌∙◌, append_assoc, arith, length-take}
+use Rattle.std.proofs.Common.{◌≡◌, ℕ, ◌+◌, ◌*◌, ◌<◌, ◌≤◌, ◌==◌, nat_lt, Bool, true, false, cond, Option, Some, None, List, [], ◌∷◌, ◌++◌, length, take, drop, refl, sym, subst, ap, ◌∙◌, append_assoc, arith, length-take}
 use Rattle.std.proofs.lemmas.Bool.Decides.{nat_tests}
 use Rattle.std.proofs.lemmas.List.{take-append-drop, append_cancel_left}
 use Rattle.std.proofs.Math.Seq.{take-append_seam}
 use Rattle.expanded_scripts.specs.Decoded.{length_in, one_octet_in, two_octets_in}
-use Rattle.expanded_scripts.specs.Template.{SpellsLength, HasValue, HasNoValue}
+use Rattle.expanded_scripts.specs.Template.{SpellsLength, HasValue}
 
 -- a length that stands at the front
 abbrev pub Spelled : List ℕ → ℕ → List ℕ → Type 0

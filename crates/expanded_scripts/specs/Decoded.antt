@@ -1,5 +1,5 @@
 -- What is found at the front of octets: a length with what stands behind it, and a whole command.
-use Rattle.std.specs.Prelude.{ℕ, suc, ◌+◌, ◌*◌, ◌==◌, ◌&&◌, ◌||◌, nat_lt, if◌then◌else◌, Option, Some, None, List, [], ◌∷◌, length}
+use Rattle.std.specs.Prelude.{ℕ, ◌+◌, ◌*◌, ◌==◌, ◌&&◌, nat_lt, if◌then◌else◌, Option, Some, None, List, [], ◌∷◌, length}
 use Rattle.apdu_codec.specs.Apdu.{data_len_of}
 
 abbrev pub one_octet_in : List ℕ → Option (ℕ × List ℕ)

@@ -1,6 +1,6 @@
 -- Why octets are no expanded command script, and where: what is wrong first. A place is that from which so
 -- many octets are left.
-use Rattle.std.specs.Prelude.{◌≡◌, ◌⊎◌, ℕ, suc, ◌+◌, ◌<◌, List, [], ◌∷◌, length}
+use Rattle.std.specs.Prelude.{◌≡◌, ◌⊎◌, ℕ, ◌+◌, ◌<◌, List, [], ◌∷◌, length}
 use Rattle.expanded_scripts.specs.declared.reading.TemplateErr.{TemplateErr}
 use Rattle.expanded_scripts.specs.declared.reading.TemplateErr.TheVariants.{Tag, Length, Child, Command, Memory}
 use Rattle.expanded_scripts.specs.Template.{HasValue, HasNoValue, IsNoCommand, AreChildren, IsOuter}

@@ -1,5 +1,5 @@
 -- Expanded command scripts, as they are spelled. ETSI TS 102 226, 5.2.2; tags by ETSI TS 101 220, 7.2.
-use Rattle.std.specs.Prelude.{◌≡◌, ℕ, suc, ◌+◌, ◌*◌, ◌<◌, ◌≤◌, List, [], ◌∷◌, ◌++◌, length}
+use Rattle.std.specs.Prelude.{◌≡◌, ℕ, ◌+◌, ◌*◌, ◌<◌, ◌≤◌, List, [], ◌∷◌, ◌++◌, length}
 use Rattle.apdu_codec.specs.Apdu.{data_len_of}
 
 -- the octets spell a length: one octet below 80, or 81 and one octet, or 82 and two octets, least form or not

@@ -82,6 +82,12 @@ aa1c220700a40000027f10220700a40000026f3a220800a2010402ffff00 ab19800103230290002
 aa1b220700a40000027f10220700a40000026f3a220700a2010402ffff ab198001032302900023029000230c0102030405060708090a9000
 aa0722050020000000 ab0780010123026d00";
 
+/// A script of INSTALL, LOAD, INSTALL and GET STATUS with its Le, and what a new card answers to it on its applets.
+const RUNS_ON_APPLETS: [&str; 2] = [
+    "aa47220f80e602000a05a00000000100000000220980e8800004c4021122221f80e60c001a05a00000000106a0000000010106a00000000102010002c90000220880f24000024f0000",
+    "ab1c800104230290002302900023029000230b06a0000000010207009000",
+];
+
 /// The octets of hexadecimal digits; none, where a hyphen stands.
 fn octets_of(alloc: Global, digits: &str) -> Result<Vec<u8>, Fail> {
     if digits == "-" {
@@ -98,11 +104,16 @@ fn refusal(alloc: Global, octets: &[u8]) -> Result<String, Fail> {
     }
 }
 
-/// What a card answers on its files, in hexadecimal digits.
-fn answer_of(alloc: Global, card: &mut CardState, octets: &[u8]) -> Result<String, Fail> {
+/// What a card answers, in hexadecimal digits.
+fn answer_of(
+    alloc: Global,
+    card: &mut CardState,
+    part: Part,
+    octets: &[u8],
+) -> Result<String, Fail> {
     match read_template(alloc, octets) {
         Ok(script) => {
-            let response = run_expanded(card, Part::Files, &script)?;
+            let response = run_expanded(card, part, &script)?;
             Ok(hex::encode(alloc, response.as_slice())?)
         }
         Err(_) => Ok(String::new(alloc)),
@@ -162,6 +173,11 @@ fn more_than_4096_octets_are_refused(rt: HostRuntime) -> Result<(), Fail> {
     assert_eq!(rt; octets.len(), 4096);
     let got = refusal(rt.alloc(), &octets)?;
     assert_eq!(rt; got.as_str(), "");
+    // Each of the 676 is written with its P3, and has an octet more then.
+    match read_template(rt.alloc(), &octets) {
+        Ok(script) => assert_eq!(rt; written_len(&script), 4772),
+        Err(_) => return Err(Fail::from("a script")),
+    }
     // The last command with an Le: one octet more.
     octets[3] = 0xFD;
     octets[4088] = 0x08;
@@ -194,10 +210,20 @@ fn cards_answer_each_executed_command(rt: HostRuntime) -> Result<(), Fail> {
         if digits != "#" {
             let mut card = CardState::fresh(rt.alloc())?;
             let octets = octets_of(rt.alloc(), digits)?;
-            let got = answer_of(rt.alloc(), &mut card, &octets)?;
+            let got = answer_of(rt.alloc(), &mut card, Part::Files, &octets)?;
             assert_eq!(rt; got.as_str(), want, "{line}");
         }
     }
+    Ok(())
+}
+
+#[test]
+fn applets_answer_too(rt: HostRuntime) -> Result<(), Fail> {
+    let [script, want] = RUNS_ON_APPLETS;
+    let mut card = CardState::fresh(rt.alloc())?;
+    let octets = octets_of(rt.alloc(), script)?;
+    let got = answer_of(rt.alloc(), &mut card, Part::Applets, &octets)?;
+    assert_eq!(rt; got.as_str(), want);
     Ok(())
 }
 
@@ -225,7 +251,7 @@ fn many_entries(alloc: Global) -> Result<Vec<u8>, Fail> {
 fn long_response_counts_255(rt: HostRuntime) -> Result<(), Fail> {
     let mut card = CardState::fresh(rt.alloc())?;
     let octets = many_reads(rt.alloc())?;
-    let got = answer_of(rt.alloc(), &mut card, &octets)?;
+    let got = answer_of(rt.alloc(), &mut card, Part::Files, &octets)?;
     let want = hex::encode(rt.alloc(), many_entries(rt.alloc())?.as_slice())?;
     assert!(rt; got == want);
     Ok(())

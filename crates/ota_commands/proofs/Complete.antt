@@ -183,6 +183,7 @@ module _ {D B C : Type 0} (told : Meaning D B C) (counts : D → Counts) (seen :
   packet_done (Some (fault.SourceFault of)) comes is done = done
   packet_done (Some (fault.JobDiffers row counter)) comes is done = done
   packet_done (Some (fault.KeysetDiffers keyset)) comes is done = done
+  packet_done (Some (fault.ScriptRefused error)) comes is done = absurd comes
   packet_done (Some (fault.KeysetClosed keyset)) comes is done = done
   packet_done (Some (fault.KeysetUnknown keyset)) comes is done = done
   packet_done (Some fault.SinkFault) comes is done = done

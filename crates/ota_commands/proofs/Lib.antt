@@ -6,3 +6,4 @@ pub mod RowLaws
 pub mod Sound
 pub mod WrittenBack
 mod Untouched
+pub mod Responses

@@ -4,7 +4,7 @@ use Rattle.plan_reader.specs.declared.plans.PlanErr.TheVariants as plan_err
 use Rattle.plan_reader.specs.declared.job_lists.JobsErr.{JobsErr}
 use Rattle.plan_reader.specs.declared.job_lists.JobsErr.TheVariants as jobs_err
 use Rattle.ota_commands.specs.declared.faults.Fault.{Fault}
-use Rattle.ota_commands.specs.declared.faults.Fault.TheVariants.{Usage, PlanRefused, JobsRefused, InputTooLong, JobDiffers, KeysetDiffers, KeysetClosed, KeysetUnknown, SourceFault, SinkFault, SiteFault, NotAJournal, WrongLane, Damaged, Full, Unformatted, Memory}
+use Rattle.ota_commands.specs.declared.faults.Fault.TheVariants.{Usage, PlanRefused, JobsRefused, InputTooLong, JobDiffers, KeysetDiffers, KeysetClosed, KeysetUnknown, ScriptRefused, SourceFault, SinkFault, SiteFault, NotAJournal, WrongLane, Damaged, Full, Unformatted, Memory}
 
 -- the exit status of a command that ends with the fault
 abbrev pub status_of : Fault → ℕ
@@ -16,6 +16,7 @@ status_of (JobDiffers row counter) = 14
 status_of (KeysetDiffers keyset) = 15
 status_of (KeysetClosed keyset) = 16
 status_of (KeysetUnknown keyset) = 17
+status_of (ScriptRefused error) = 18
 status_of (SourceFault which) = 20
 status_of SinkFault = 21
 status_of (SiteFault lane) = 22

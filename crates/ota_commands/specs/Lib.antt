@@ -3,6 +3,8 @@ pub mod Texts
 pub mod Words
 pub mod Inputs
 pub mod Writing
+pub mod Trials
+pub mod DryRuns
 pub mod Ends
 pub mod Command
 pub mod Answers

@@ -4,10 +4,12 @@ use Rattle.std.specs.Fmt.{decimal}
 use Rattle.ota_core.specs.Keyset.{Keyset}
 use Rattle.reports.specs.Report.{counter_text}
 use Rattle.plan_reader.specs.Words.{table_word, field_word, column_word}
+use Rattle.expanded_scripts.specs.declared.reading.TemplateErr.{TemplateErr}
+use Rattle.expanded_scripts.specs.declared.reading.TemplateErr.TheVariants as template_err
 use Rattle.ota_commands.specs.declared.faults.Which.{Which}
 use Rattle.ota_commands.specs.declared.faults.Which.TheVariants.{Plan, Jobs}
 use Rattle.ota_commands.specs.declared.faults.Fault.{Fault}
-use Rattle.ota_commands.specs.declared.faults.Fault.TheVariants.{Usage, PlanRefused, JobsRefused, InputTooLong, JobDiffers, KeysetDiffers, KeysetClosed, KeysetUnknown, SourceFault, SinkFault, SiteFault, NotAJournal, WrongLane, Damaged, Full, Unformatted, Memory}
+use Rattle.ota_commands.specs.declared.faults.Fault.TheVariants.{Usage, PlanRefused, JobsRefused, InputTooLong, JobDiffers, KeysetDiffers, KeysetClosed, KeysetUnknown, ScriptRefused, SourceFault, SinkFault, SiteFault, NotAJournal, WrongLane, Damaged, Full, Unformatted, Memory}
 
 -- an input's name
 abbrev pub which_word : Which → List ℕ
@@ -17,6 +19,14 @@ which_word Jobs = codes "jobs"
 -- what is so with a keyset
 abbrev pub keyset_text : List ℕ → Keyset → List ℕ
 keyset_text how keyset = codes "keyset " ++ how ++ codes ": card " ++ decimal keyset.card.0 ++ codes " kvn " ++ decimal keyset.kvn
+
+-- why a script is refused, with the place from 0 on
+abbrev pub refusal_text : TemplateErr → List ℕ
+refusal_text template_err.Tag = codes "script refused: tag"
+refusal_text (template_err.Length place) = codes "script refused: length " ++ decimal place
+refusal_text (template_err.Child place) = codes "script refused: child " ++ decimal place
+refusal_text (template_err.Command place) = codes "script refused: command " ++ decimal place
+refusal_text template_err.Memory = codes "script refused: out of memory"
 
 -- the text of a fault
 abbrev pub text_of : Fault → List ℕ
@@ -28,6 +38,7 @@ text_of (JobDiffers row counter) = codes "job differs: row " ++ decimal row ++ c
 text_of (KeysetDiffers keyset) = keyset_text (codes "differs") keyset
 text_of (KeysetClosed keyset) = keyset_text (codes "closed") keyset
 text_of (KeysetUnknown keyset) = keyset_text (codes "unknown") keyset
+text_of (ScriptRefused error) = refusal_text error
 text_of (SourceFault which) = codes "read fault: " ++ which_word which
 text_of SinkFault = codes "write fault"
 text_of (SiteFault lane) = codes "site fault: lane " ++ decimal lane

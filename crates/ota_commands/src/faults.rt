@@ -2,8 +2,9 @@ ghost use Rattle.std.specs.Prelude.{◌≡◌, Some, IfOk, ◌++◌, codes};
 ghost use Rattle.std.specs.Fmt.{decimal, DisplaysOnOk};
 ghost use Rattle.reports.specs.Report.{counter_text};
 ghost use Rattle.ota_commands.specs.Fault.{status_of};
-ghost use Rattle.ota_commands.specs.Texts.{keyset_text};
+ghost use Rattle.ota_commands.specs.Texts.{keyset_text, refusal_text};
 
+use expanded_scripts::TemplateErr;
 use ota_core::{Counter, KeysetId};
 use plan_reader::{Column, Field, Table};
 use std::fmt;
@@ -46,6 +47,8 @@ pub enum Fault {
     KeysetDiffers(KeysetId),
     KeysetClosed(KeysetId),
     KeysetUnknown(KeysetId),
+    /// The expanded script is none, for what is wrong first.
+    ScriptRefused(TemplateErr),
     /// The input couldn't be read.
     SourceFault(Which),
     /// The output couldn't be written.
@@ -80,6 +83,7 @@ impl Fault {
             Fault::KeysetDiffers(_) => 15,
             Fault::KeysetClosed(_) => 16,
             Fault::KeysetUnknown(_) => 17,
+            Fault::ScriptRefused(_) => 18,
             Fault::SourceFault(_) => 20,
             Fault::SinkFault => 21,
             Fault::SiteFault(_) => 22,
@@ -112,6 +116,7 @@ impl fmt::Display for Fault {
             Fault::KeysetDiffers(keyset) => write_keyset(f, "differs", keyset),
             Fault::KeysetClosed(keyset) => write_keyset(f, "closed", keyset),
             Fault::KeysetUnknown(keyset) => write_keyset(f, "unknown", keyset),
+            Fault::ScriptRefused(error) => write_refusal(f, *error),
             Fault::SourceFault(which) => write!(f, "read fault: {which}"),
             Fault::SinkFault => f.write_str("write fault"),
             Fault::SiteFault(lane) => write!(f, "site fault: lane {lane}"),
@@ -166,4 +171,17 @@ fn write_keyset<W: fmt::Write>(
     let card = keyset.card.0;
     let kvn = keyset.kvn;
     write!(f, "keyset {how}: card {card} kvn {kvn}")
+}
+
+/// Why a script is refused, with the place from 0 on. Want of memory is no refusal.
+fn write_refusal<W: fmt::Write>(f: &mut fmt::Formatter<W>, error: TemplateErr) -> fmt::Result
+    ensures { DisplaysOnOk W.write_str_gives f.old result (Some (refusal_text error)) f.new }
+{
+    match error {
+        TemplateErr::Tag => f.write_str("script refused: tag"),
+        TemplateErr::Length(place) => write!(f, "script refused: length {place}"),
+        TemplateErr::Child(place) => write!(f, "script refused: child {place}"),
+        TemplateErr::Command(place) => write!(f, "script refused: command {place}"),
+        TemplateErr::Memory => f.write_str("script refused: out of memory"),
+    }
 }

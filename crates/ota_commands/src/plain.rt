@@ -152,7 +152,7 @@ fn end_with<T>(fault: Option<Fault>, ends: Vec<Option<Fault>>, sites: Vec<T>) ->
     }
 }
 
-fn status_of_end(fault: &Option<Fault>) -> u8
+pub(crate) fn status_of_end(fault: &Option<Fault>) -> u8
     ensures { result ≡ status_of_end fault.now }
 {
     match fault {

@@ -89,7 +89,7 @@ fn formatted_text(alloc: Global, lanes: usize) -> Result<String, Memory>
 }
 
 /// Writes a text that there is.
-fn write_text<K: Sink>(sink: &mut K, text: &String) -> Written
+pub fn write_text<K: Sink>(sink: &mut K, text: &String) -> Written
     ensures text { IsTrue (K.tells sink.old) → IsWritten (string_bytes text.now) (K.written sink.old) (K.written sink.new) result }
     ensures cause { WriteCause (K.faults sink.old) (K.faults sink.new) result }
 {

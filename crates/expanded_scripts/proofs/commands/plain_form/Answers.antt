@@ -1,4 +1,4 @@
-use Rattle.std.proofs.Common.{◌≡◌, ◌∙◌, sym, subst, List, ℕ}
+use Rattle.std.proofs.Common.{sym, subst, List, ℕ}
 use Rattle.expanded_scripts.specs.Template.{IsCommand}
 use Rattle.expanded_scripts.proofs.Forms.{plain-found}
 use Rattle.expanded_scripts.proofs.commands.plain_form.Goals as goal

@@ -1,4 +1,4 @@
-use Rattle.expanded_scripts.proofs.Once.{one-script, one-refusal, apart}
+use Rattle.expanded_scripts.proofs.TemplateLaws.{one-script, one-refusal, apart}
 use Rattle.expanded_scripts.proofs.laws.one_reading.Goals as goal
 
 pub returns-clause-one_script : goal.returns-clause-one_script

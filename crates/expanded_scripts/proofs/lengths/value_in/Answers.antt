@@ -1,4 +1,4 @@
-use Rattle.std.proofs.Common.{◌≡◌, ℕ, List, Option, Some}
+use Rattle.std.proofs.Common.{◌≡◌, Some}
 use Rattle.expanded_scripts.specs.Decoded.{length_in}
 use Rattle.expanded_scripts.proofs.Values.{value-found}
 use Rattle.expanded_scripts.proofs.lengths.value_in.Goals as goal

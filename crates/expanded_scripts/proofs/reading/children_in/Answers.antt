@@ -1,4 +1,4 @@
-use Rattle.std.proofs.Common.{rules, ◌≡◌, ◌⊎◌, inl, inr, ℕ, ◌-◌, List, [], ◌∷◌, length, take, drop, refl, subst, arith, length-drop}
+use Rattle.std.proofs.Common.{rules, ◌≡◌, inr, ℕ, ◌-◌, List, [], length, take, drop, refl, subst, arith, length-drop}
 use Rattle.std.proofs.lemmas.List.{take_all}
 use Rattle.expanded_scripts.specs.Template.{HasValue}
 use Rattle.expanded_scripts.proofs.reading.children_in.Goals as goal

@@ -1,4 +1,4 @@
-use Rattle.expanded_scripts.proofs.Once.{read-as, refused-as}
+use Rattle.expanded_scripts.proofs.TemplateLaws.{read-as, refused-as}
 use Rattle.expanded_scripts.proofs.reading.read_template.Goals as goal
 
 pub returns-clause-each_script : goal.returns-clause-each_script

@@ -1,4 +1,4 @@
-use Rattle.std.proofs.Common.{◌≡◌, ℕ, List, [], ◌∷◌, ◌++◌, ◌+◌, ◌≤◌, length, sym, subst, ap, ◌∙◌, arith, length-append}
+use Rattle.std.proofs.Common.{◌≡◌, ℕ, List, [], ◌∷◌, ◌++◌, ◌+◌, length, sym, subst, ap, ◌∙◌, arith, length-append}
 use Rattle.expanded_scripts.specs.Template.{AreWhole}
 use Rattle.expanded_scripts.proofs.Grammar.{Reads, reads-more, whole-more, plain-whole}
 use Rattle.expanded_scripts.proofs.reading.template_in.Goals as goal

@@ -1,4 +1,4 @@
-use Rattle.std.proofs.Common.{◌≡◌, ℕ, List, ◌+◌, ◌<◌, ◌≤◌, length}
+use Rattle.std.proofs.Common.{◌+◌, ◌≤◌, length}
 use Rattle.expanded_scripts.specs.Template.{AreWhole}
 use Rattle.expanded_scripts.proofs.Grammar.{Reads}
 use Rattle.expanded_scripts.proofs.reading.template_in.Given as goal

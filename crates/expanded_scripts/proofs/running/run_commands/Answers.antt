@@ -1,7 +1,7 @@
-use Rattle.std.proofs.Common.{◌≡◌, ℕ, ◌+◌, ◌*◌, ◌≤◌, List, ◌++◌, length, refl, sym, subst, ◌∙◌, arith}
+use Rattle.std.proofs.Common.{◌≡◌, ℕ, List, ◌++◌, refl, sym, subst, ◌∙◌, arith}
 use Rattle.apdu_codec.specs.Reply.{Answer, answered}
 use Rattle.script_engine.specs.declared.card.CardState.{CardState}
-use Rattle.expanded_scripts.specs.Answers.{answer_alone, answers, left_by, entry_of, HasBegun}
+use Rattle.expanded_scripts.specs.Answers.{answer_alone, entry_of, HasBegun}
 use Rattle.expanded_scripts.specs.Template.{IsWhole, AreWhole}
 use Rattle.expanded_scripts.proofs.Entries.{IsNext, HasEnded, next-goes-on, next-ends, next-begun, on-err, both-leave}
 use Rattle.expanded_scripts.proofs.Forms.{whole-at}

@@ -1,4 +1,4 @@
-use Rattle.std.proofs.Common.{◌≡◌, ◌+◌, length, arith, length-append}
+use Rattle.std.proofs.Common.{length, arith, length-append}
 use Rattle.expanded_scripts.specs.Written.{least_length}
 use Rattle.expanded_scripts.proofs.Forms.{whole-short}
 use Rattle.expanded_scripts.proofs.writing.child_len.Goals as goal

@@ -1,5 +1,5 @@
--- Octets are read in one way: they are one script, or are refused for one reason.
-use Rattle.std.proofs.Common.{◌≡◌, ◌⊎◌, inl, inr, ℕ, ◌+◌, ◌<◌, ◌≤◌, List, [], ◌∷◌, length, Result, Ok, Err, IfOk, IfErr, refl, sym, subst, ap, ◌∙◌, arith}
+-- Laws of the grammar, which other crates cite: octets are one script, or are refused for one reason.
+use Rattle.std.proofs.Common.{◌≡◌, ◌⊎◌, inl, inr, ℕ, List, [], ◌∷◌, length, Result, Ok, Err, IfOk, IfErr, refl, sym, subst, ap, ◌∙◌, arith}
 use Rattle.expanded_scripts.specs.declared.reading.TemplateErr.{TemplateErr}
 use Rattle.expanded_scripts.specs.declared.reading.TemplateErr.TheVariants.{Tag, Length, Child, Command, Memory}
 use Rattle.expanded_scripts.specs.Template.{HasValue, IsCommand, IsChild, AreChildren, IsOuter, IsTemplate}
