@@ -1,20 +1,22 @@
 -- The jobs that remain, job by job.
-use Rattle.std.proofs.Common.{◌≡◌, ℕ, zero, suc, ◌+◌, ◌<◌, Bool, true, false, ◌&&◌, cond, if◌then◌else◌, List, [], ◌∷◌, ◌++◌, length, get_or, take, reverse, refl, sym, ap, ◌∙◌, arith, append_assoc, length-append}
-use Rattle.std.specs.Prelude.{slice_index_or}
+use Rattle.std.proofs.Common.{◌≡◌, ℕ, zero, suc, ◌+◌, ◌<◌, nat_le, Bool, true, false, ◌&&◌, cond, if◌then◌else◌, List, [], ◌∷◌, ◌++◌, length, get_or, take, refl, sym, ap, ◌∙◌, arith, append_assoc, length-append}
+use Rattle.std.specs.Prelude.{slice_index_or, Result, Ok, Err}
 use Rattle.std.specs.List.{filter, AllZip}
 use Rattle.std.proofs.lemmas.List.{append-nil}
 use Rattle.std.proofs.lemmas.List.Elements.{filter-append, filter_more}
+use Rattle.std.proofs.lemmas.Bool.Decides.{nat_tests}
 use Rattle.ota_core.specs.Keyset.{Keyset, is_same_keyset}
-use Rattle.ota_core.specs.Outcome.{outcome_of}
-use Rattle.ota_core.specs.Questions.{state_of}
+use Rattle.ota_core.specs.History.{LAST_COUNTER}
 use Rattle.ota_core.specs.declared.jobs.Job.{Job}
 use Rattle.ota_core.specs.declared.entries.Entry.{Entry}
 use Rattle.ota_core.specs.declared.questions.KeysetState.{KeysetState}
 use Rattle.ota_core.specs.declared.questions.KeysetState.TheVariants as state
-use Rattle.keyset_book.specs.Answers.{looked_of}
+use Rattle.keyset_book.specs.Answers.{next_where}
 use Rattle.keyset_book.specs.Book.{StandsFor}
+use Rattle.keyset_book.specs.declared.answers.BookErr.{BookErr}
+use Rattle.keyset_book.specs.declared.answers.BookErr.TheVariants.{Exhausted}
 use Rattle.keyset_book.specs.declared.books.Book.{Book}
-use Rattle.campaigns.specs.WorkList.{AreBooksOf, is_wanted, is_open, is_due_in, is_due, jobs_on, has_counter, served, remaining_jobs}
+use Rattle.campaigns.specs.WorkList.{AreBooksOf, is_open, is_due, jobs_on, has_counter, served, remaining_jobs}
 
 -- there are as many books as histories
 pub as_many : (books : List Book) (histories : List (List Entry)) → AreBooksOf histories books → length books ≡ length histories
@@ -32,15 +34,31 @@ book_at (first ∷ books) [] are i book within = absurd are
 book_at (first ∷ books) (history ∷ histories) are zero book within = are.0
 book_at (first ∷ books) (history ∷ histories) are (suc i) book within = book_at books histories are.1 i book (omega (arith, within))
 
--- a keyset with a job that is due is open
-pub due_open : (retry : Bool) (history : List Entry) (job : Job) → is_due_in retry history job ≡ true → state_of job.keyset (reverse history) ≡ state.Open
-due_open retry history job due = opened (is_wanted retry (looked_of (outcome_of history job.id))) (state_of job.keyset (reverse history)) due
+-- counters that are one answer are one
+same_answer : (counter next : ℕ) → ◌≡◌ {A = Result ℕ BookErr} (Ok counter) (Ok next) → counter ≡ next
+same_answer counter next e = cc
+
+-- a counter is left, by the counter that comes next
+pub left_next : (stands : KeysetState) (next before counter : ℕ) → Ok counter ≡ next_where stands next
+    → nat_le (counter + before) LAST_COUNTER ≡ (is_open stands && nat_le (next + before) LAST_COUNTER)
+left_next state.New next before counter is = cc
+left_next state.Closed next before counter is = cc
+left_next state.Open next before counter is = by_test (nat_le next LAST_COUNTER) is
   where
-    opened : (wanted : Bool) (stands : KeysetState) → (wanted && is_open stands) ≡ true → stands ≡ state.Open
-    opened true state.Open both = refl
-    opened true state.New both = cc
-    opened true state.Closed both = cc
-    opened false stands both = cc
+    by_test : (left : Bool) → Ok counter ≡ (if left then Ok next else Err Exhausted) → nat_le (counter + before) LAST_COUNTER ≡ nat_le (next + before) LAST_COUNTER
+    by_test true e = ap (λ n. nat_le (n + before) LAST_COUNTER) (same_answer counter next e)
+    by_test false e = cc
+
+-- no counter is left where none comes next
+pub none_left : (stands : KeysetState) (next before : ℕ) (why : BookErr) → Err why ≡ next_where stands next
+    → false ≡ (is_open stands && nat_le (next + before) LAST_COUNTER)
+none_left state.New next before why is = refl
+none_left state.Closed next before why is = refl
+none_left state.Open next before why is = by_test (nat_le next LAST_COUNTER) refl is
+  where
+    by_test : (left : Bool) → nat_le next LAST_COUNTER ≡ left → Err why ≡ (if left then Ok next else Err Exhausted) → false ≡ nat_le (next + before) LAST_COUNTER
+    by_test true e none = cc
+    by_test false e none = grind (arith, nat_tests, e)
 
 -- the jobs that are served, with one more behind them
 served_push : (histories : List (List Entry)) (before jobs : List Job) (job : Job)

@@ -35,16 +35,10 @@ is_wanted retry New = true
 is_wanted retry (Refused keyset counter) = retry
 is_wanted retry _ = false
 
--- the keyset is in use
-abbrev pub is_open : KeysetState → Bool
-is_open state.Open = true
-is_open _ = false
-
--- the job is to be reserved, and its keyset is open, by a history
+-- the job is to be reserved, by the history of its lane
 abbrev pub is_due_in : Bool → List Entry → Job → Bool
-is_due_in retry history job = is_wanted retry (looked_of (outcome_of history job.id)) && is_open (state_of job.keyset (reverse history))
+is_due_in retry history job = is_wanted retry (looked_of (outcome_of history job.id))
 
--- the same by the history of the job's lane
 abbrev pub is_due : Bool → List (List Entry) → Job → Bool
 is_due retry histories job = is_due_in retry (history_for histories job) job
 
@@ -52,11 +46,17 @@ is_due retry histories job = is_due_in retry (history_for histories job) job
 abbrev pub jobs_on : Keyset → List Job → List Job
 jobs_on keyset jobs = filter (λ job. is_same_keyset job.keyset keyset) jobs
 
--- a counter of the job's keyset is left for it, behind so many others of the keyset
-abbrev pub has_counter_in : List Entry → Keyset → ℕ → Bool
-has_counter_in history keyset before = nat_le (next_counter keyset (reverse history) + before) LAST_COUNTER
+-- the keyset is in use
+abbrev pub is_open : KeysetState → Bool
+is_open state.Open = true
+is_open _ = false
 
--- a counter is left for the job, behind the jobs before it
+-- the keyset is open, and a counter of it is left behind so many jobs
+abbrev pub has_counter_in : List Entry → Keyset → ℕ → Bool
+has_counter_in history keyset before =
+    is_open (state_of keyset (reverse history)) && nat_le (next_counter keyset (reverse history) + before) LAST_COUNTER
+
+-- a counter is left for the job, behind the due jobs before it
 abbrev pub has_counter : List (List Entry) → List Job → Job → Bool
 has_counter histories before job = has_counter_in (history_for histories job) job.keyset (length (jobs_on job.keyset before))
 

@@ -1,16 +1,14 @@
 //! The jobs for which a counter is to be reserved.
 
-ghost use Rattle.std.specs.Prelude.{◌≡◌, ◌<◌, ◌≤◌, ◌^◌, ◌%◌, ◌+◌, ◌∷◌, [], ◌++◌, ◌&&◌, if◌then◌else◌, nat_le, List, length, get_or, reverse, IfOk, OnOk};
+ghost use Rattle.std.specs.Prelude.{◌≡◌, ◌<◌, ◌≤◌, ◌^◌, ◌%◌, ◌+◌, ◌∷◌, [], ◌++◌, ◌&&◌, if◌then◌else◌, nat_le, List, length, get_or, IfOk, OnOk};
 ghost use Rattle.ota_core.specs.Keyset.{Keyset, is_same_keyset};
-ghost use Rattle.ota_core.specs.Questions.{state_of};
 ghost use Rattle.ota_core.specs.declared.entries.Entry.{Entry};
-ghost use Rattle.ota_core.specs.declared.questions.KeysetState.TheVariants as KeysetState;
 ghost use Rattle.keyset_book.specs.Book.{StandsFor};
-ghost use Rattle.campaigns.specs.WorkList.{AreBooksOf, is_wanted, is_open, is_due_in, has_counter_in, remaining_jobs};
+ghost use Rattle.campaigns.specs.WorkList.{AreBooksOf, is_wanted, is_due_in, has_counter_in, remaining_jobs};
 ghost use Rattle.campaigns.specs.Batching.{counted_in};
 
 use keyset_book::{Book, Looked};
-use ota_core::{Job, KeysetId, KeysetState, Memory};
+use ota_core::{Counter, Job, KeysetId, Memory};
 use senders::JobList;
 use std::alloc::Global;
 use std::collections::BTreeMap;
@@ -71,11 +69,11 @@ fn put_if_remaining(
     Ok(())
 }
 
-/// Whether the job is to be reserved, and its keyset is open.
+/// Whether the job is to be reserved.
 fn is_due(book: &Book, job: &Job, retry: bool) -> bool
     ensures { (history : List Entry) → StandsFor book.now history → result ≡ is_due_in retry history job.now }
 {
-    is_wanted(&book.look(job.id), retry) && is_open(book.keyset_state(job.keyset))
+    is_wanted(&book.look(job.id), retry)
 }
 
 fn is_wanted(looked: &Looked, retry: bool) -> bool
@@ -86,12 +84,6 @@ fn is_wanted(looked: &Looked, retry: bool) -> bool
         Looked::Refused(_, _) => retry,
         _ => false,
     }
-}
-
-fn is_open(state: KeysetState) -> bool
-    ensures { result ≡ is_open state }
-{
-    matches!(state, KeysetState::Open)
 }
 
 /// Counts a job on the keyset, and gives how many were counted before.
@@ -114,20 +106,20 @@ fn counted(counts: &BTreeMap<KeysetId, usize>, keyset: KeysetId) -> usize
     }
 }
 
-/// Whether a counter of an open keyset is left behind so many other jobs.
+/// Whether the keyset is open, and a counter of it is left behind so many jobs.
 fn has_counter(book: &Book, keyset: KeysetId, before: usize) -> bool
-    ensures { (history : List Entry) → StandsFor book.now history → state_of keyset (reverse history) ≡ KeysetState.Open → result ≡ has_counter_in history keyset before }
+    ensures { (history : List Entry) → StandsFor book.now history → result ≡ has_counter_in history keyset before }
 {
     match book.next(keyset) {
-        Ok(counter) => is_left(counter.0, before),
+        Ok(next) => is_left(next, before),
         Err(_) => false,
     }
 }
 
-fn is_left(next: u64, before: usize) -> bool
+fn is_left(next: Counter, before: usize) -> bool
     ensures { result ≡ nat_le (next + before) 0xFF_FFFF_FFFE }
 {
-    next.saturating_add(before as u64) <= LAST_COUNTER
+    next.0.saturating_add(before as u64) <= LAST_COUNTER
 }
 
 fn copy(job: &Job) -> Result<Job, Memory>
