@@ -1,21 +1,20 @@
 -- How a reading ends.
-use Rattle.std.proofs.Common.{◌≡◌, ◌⊎◌, ℕ, ◌+◌, ◌-◌, ◌≤◌, true, List, [], length, take, drop, refl, inl, inr, ⊎_elim, sym, ◌∙◌, ap, subst, arith, length-append, length-drop, length-take}
+use Rattle.std.proofs.Common.{◌≡◌, ◌⊎◌, ℕ, ◌+◌, ◌-◌, ◌≤◌, List, [], length, take, drop, refl, inl, inr, ⊎_elim, sym, ◌∙◌, ap, subst, arith, length-append, length-drop, length-take}
 use Rattle.std.proofs.lemmas.List.{append-nil}
-use Rattle.std.specs.Prelude.{Result, Ok, Err, IfOk, IfErr, OnOk}
+use Rattle.std.specs.Prelude.{Result, Ok, Err, IfOk}
 use Rattle.disk_model.specs.declared.faults.DiskFault.{DiskFault}
 use Rattle.disk_model.specs.Disk.{Meaning, DiskRun, Cut, Only, image_now}
 use Rattle.disk_model.specs.Runs.{weaker, joined, left_now}
 use Rattle.gate_log.specs.declared.standings.Standing.TheVariants as standing
-use Rattle.gate_log.specs.Reading.{Reading, parts_of}
+use Rattle.gate_log.specs.Reading.{parts_of}
 use Rattle.gate_log.specs.Reading.Reading.{Opened}
 use Rattle.gate_log.specs.declared.log_errors.LogErr.{LogErr}
 use Rattle.gate_log.specs.declared.log_errors.LogErr.TheVariants as log_err
-use Rattle.gate_log.specs.Answers.{OpensAt, Answers, UnlessFault, IsWantOrFault}
+use Rattle.gate_log.specs.Answers.{OpensAt, Answers, UnlessFault}
 use Rattle.gate_log.specs.Opening.{OpensAlike, IsOpened, IsOpenLog}
-use Rattle.gate_log.specs.Calls.{CutTicks, behind_in, EndTicks, calls_of_end, WholeErrTicks, WholeTicks}
-use Rattle.gate_log.specs.CallLaws.{left_whole, all_read, ended_whole, windows_by, windows_more}
-use Rattle.gate_log.specs.Windows.{rest_of, windows_in, IsWithin}
-use Rattle.gate_log.specs.Readers.{ReaderState, has_ended, in_front, IsReading, IsReadTo, IsOpenedWith, FinishAnswer, ReadOnTicks}
+use Rattle.gate_log.specs.Calls.{CutTicks, behind_in}
+use Rattle.gate_log.specs.Windows.{rest_of}
+use Rattle.gate_log.specs.Readers.{ReaderState, in_front, IsReading, IsOpenedWith, FinishAnswer}
 use Rattle.gate_log.specs.Readings.{cut_again}
 use Rattle.gate_log.proofs.Opened.{cut_alike}
 use Rattle.gate_log.proofs.ReaderParts.{left_by}
@@ -93,34 +92,3 @@ end_ticks head text len end before now at long result ticks =
     let behind : behind_in (parts_of head text) ≡ length at.1 = ap behind_in at.2 in
     let is : len - end ≡ behind_in (parts_of head text) = omega (arith, behind, at.3, long) in
     subst (λ (n : ℕ). CutTicks n before now result) is ticks
-
--- ---- the calls of a whole reading
-
-pub none_more : (n : ℕ) → n ≡ n + 0
-none_more n = omega arith
-
-module _ {D B C : Type 0} (told : Meaning D B C) (old begun mid : D) (head : List ℕ) (calls : ℕ) (first reader : ReaderState) (first_is : told.clock begun ≡ told.clock old + calls + 1) (window : windows_in first.windows.read ≡ 1)
-    (later : told.clock begun ≤ told.clock mid) where
-  -- one that was left off
-  pub whole_left : (ends octets : ℕ) (read : Reading) (error : LogErr) → IsWantOrFault error → first.windows.long ≡ octets
-      → told.clock mid + windows_in first.windows.read ≤ told.clock begun + windows_in first.windows.long → WholeErrTicks calls ends read octets (told.clock old) (told.clock mid) error
-  whole_left ends octets read error want long ticks =
-      left_whole calls ends octets (told.clock old) (told.clock mid) read error want (omega (arith, first_is, later)) (omega (arith, first_is, window, ticks, ap windows_in long))
-
-  module _ (text : List ℕ) (parts : List (List ℕ)) (reading : IsReading head text parts reader) (all : IsReadTo parts (parts_of head text)) (within : IsWithin reader.windows) (ended : has_ended reader ≡ true)
-      (ticks : told.clock mid + windows_in first.windows.read ≡ told.clock begun + windows_in reader.windows.read) where
-    -- one that was ended
-    pub whole_ended : {T : Type 0} (new : D) (ends : ℕ) (result : Result T LogErr) → EndTicks ends (told.clock mid) (told.clock new) result
-        → WholeTicks calls (calls_of_end ends) (parts_of head text) (length text) (told.clock old) (told.clock new) result
-    whole_ended new ends result end =
-        let by = windows_by calls (told.clock old) (told.clock begun) (told.clock mid) first.windows.read reader.windows.read first_is window ticks later in
-        ended_whole calls ends (length text) (told.clock old) (told.clock mid) (told.clock new) (parts_of head text) (windows_in reader.windows.read) (all_read head text parts reader reading within ended all by.1)
-        (windows_more reader.windows.read (length text) (omega (arith, within.read, reading.long))) by.0 result end
-
-  -- one that ends where its parts were given
-  pub whole_looked : {T : Type 0} (text : List ℕ) (parts_in : T → List (List ℕ)) (result : Result T LogErr)
-      → IfOk result (λ value. IsReading head text (parts_in value) reader × IsReadTo (parts_in value) (parts_of head text)) → OnOk result (has_ended reader ≡ true) → IfErr result IsWantOrFault → IsWithin reader.windows
-      → first.windows.long ≡ length text → ReadOnTicks (told.clock begun) (told.clock mid) first reader result
-      → WholeTicks calls 0 (parts_of head text) (length text) (told.clock old) (told.clock mid) result
-  whole_looked text parts_in (Ok value) given ended want within long ticks = whole_ended text (parts_in value) given.0 given.1 within ended ticks mid 0 (Ok value) (none_more (told.clock mid))
-  whole_looked text parts_in (Err error) given ended want within long ticks = whole_left 0 (length text) (parts_of head text) error want long ticks

@@ -1,7 +1,8 @@
 -- Laws of how many calls of a disk the calls of a log make.
-use Rattle.std.specs.Prelude.{◌≡◌, ℕ, ◌+◌, ◌-◌, ◌≤◌, true, min, List, length, drop, Result, Ok, Err, refl}
+use Rattle.std.specs.Prelude.{◌≡◌, ℕ, ◌+◌, ◌-◌, ◌≤◌, true, min, List, length, drop, Result, Ok, Err, IfOk, IfErr, OnOk, refl}
 use Rattle.std.proofs.Common.{inl, inr, sym, ◌∙◌, ap, subst, arith, length-append, length-drop}
 use Rattle.disk_model.specs.declared.faults.DiskFault.TheVariants as fault
+use Rattle.disk_model.specs.Disk.{Meaning}
 use Rattle.gate_log.specs.declared.headings.Heading.{Heading}
 use Rattle.gate_log.specs.declared.headings.Heading.TheVariants as heading
 use Rattle.gate_log.specs.declared.log_errors.LogErr.{LogErr}
@@ -12,7 +13,7 @@ use Rattle.gate_log.specs.declared.standings.Standing.TheVariants as standing
 use Rattle.gate_log.specs.Reading.{Reading, parts_of}
 use Rattle.gate_log.specs.Reading.Reading.{Unformatted, NotALog, OtherHead, Damaged, Opened}
 use Rattle.gate_log.specs.Windows.{rest_of, IsWithin, windows_in}
-use Rattle.gate_log.specs.Readers.{ReaderState, ended_at, has_ended, in_front, left_at, IsReading, IsReadTo}
+use Rattle.gate_log.specs.Readers.{ReaderState, ended_at, has_ended, in_front, left_at, IsReading, IsReadTo, ReadOnTicks}
 use Rattle.gate_log.specs.Calls.{FirstErrTicks, BeginErrTicks, BeginTicks, calls_of_end, EndTicks, AreRead, WholeErrTicks, WholeTicks}
 
 -- more octets take no fewer windows
@@ -125,3 +126,34 @@ module _ {T : Type 0} (calls ends octets before mid now : ℕ) (read : Reading) 
 pub windows_by : (calls before begun mid first last : ℕ) → begun ≡ before + calls + 1 → windows_in first ≡ 1 → mid + windows_in first ≡ begun + windows_in last → begun ≤ mid
     → (mid ≡ before + calls + windows_in last) × (1 ≤ windows_in last)
 windows_by calls before begun mid first last is one ticks later = (omega (arith, is, one, ticks), omega (arith, is, one, ticks, later))
+
+-- ---- the calls of a whole reading
+
+pub none_more : (n : ℕ) → n ≡ n + 0
+none_more n = omega arith
+
+module _ {D B C : Type 0} (told : Meaning D B C) (old begun mid : D) (head : List ℕ) (calls : ℕ) (first reader : ReaderState) (first_is : told.clock begun ≡ told.clock old + calls + 1) (window : windows_in first.windows.read ≡ 1)
+    (later : told.clock begun ≤ told.clock mid) where
+  -- one that was left off
+  pub whole_left : (ends octets : ℕ) (read : Reading) (error : LogErr) → IsWantOrFault error → first.windows.long ≡ octets
+      → told.clock mid + windows_in first.windows.read ≤ told.clock begun + windows_in first.windows.long → WholeErrTicks calls ends read octets (told.clock old) (told.clock mid) error
+  whole_left ends octets read error want long ticks =
+      left_whole calls ends octets (told.clock old) (told.clock mid) read error want (omega (arith, first_is, later)) (omega (arith, first_is, window, ticks, ap windows_in long))
+
+  module _ (text : List ℕ) (parts : List (List ℕ)) (reading : IsReading head text parts reader) (all : IsReadTo parts (parts_of head text)) (within : IsWithin reader.windows) (ended : has_ended reader ≡ true)
+      (ticks : told.clock mid + windows_in first.windows.read ≡ told.clock begun + windows_in reader.windows.read) where
+    -- one that was ended
+    pub whole_ended : {T : Type 0} (new : D) (ends : ℕ) (result : Result T LogErr) → EndTicks ends (told.clock mid) (told.clock new) result
+        → WholeTicks calls (calls_of_end ends) (parts_of head text) (length text) (told.clock old) (told.clock new) result
+    whole_ended new ends result end =
+        let by = windows_by calls (told.clock old) (told.clock begun) (told.clock mid) first.windows.read reader.windows.read first_is window ticks later in
+        ended_whole calls ends (length text) (told.clock old) (told.clock mid) (told.clock new) (parts_of head text) (windows_in reader.windows.read) (all_read head text parts reader reading within ended all by.1)
+        (windows_more reader.windows.read (length text) (omega (arith, within.read, reading.long))) by.0 result end
+
+  -- one that ends where its parts were given
+  pub whole_looked : {T : Type 0} (text : List ℕ) (parts_in : T → List (List ℕ)) (result : Result T LogErr)
+      → IfOk result (λ value. IsReading head text (parts_in value) reader × IsReadTo (parts_in value) (parts_of head text)) → OnOk result (has_ended reader ≡ true) → IfErr result IsWantOrFault → IsWithin reader.windows
+      → first.windows.long ≡ length text → ReadOnTicks (told.clock begun) (told.clock mid) first reader result
+      → WholeTicks calls 0 (parts_of head text) (length text) (told.clock old) (told.clock mid) result
+  whole_looked text parts_in (Ok value) given ended want within long ticks = whole_ended text (parts_in value) given.0 given.1 within ended ticks mid 0 (Ok value) (none_more (told.clock mid))
+  whole_looked text parts_in (Err error) given ended want within long ticks = whole_left 0 (length text) (parts_of head text) error want long ticks

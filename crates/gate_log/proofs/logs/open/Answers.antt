@@ -4,8 +4,8 @@ use Rattle.gate_log.specs.ReadingLaws.{tells_on, look_on}
 use Rattle.std.proofs.lemmas.Result.{err_from_is_err_and}
 use Rattle.gate_log.specs.Reading.{parts_of}
 use Rattle.gate_log.specs.Calls.{EndTicks, calls_of_end, behind_in}
-use Rattle.gate_log.specs.CallLaws.{begun_whole}
-use Rattle.gate_log.proofs.Finished.{opened_answer, opened_settled, opened_moments, whole_left, whole_ended}
+use Rattle.gate_log.specs.CallLaws.{begun_whole, whole_left, whole_ended}
+use Rattle.gate_log.proofs.Finished.{opened_answer, opened_settled, opened_moments}
 use Rattle.gate_log.proofs.logs.open.Goals as goal
 
 pub finish-requires-clause-long : goal.finish-requires-clause-long

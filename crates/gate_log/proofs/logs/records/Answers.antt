@@ -5,8 +5,7 @@ use Rattle.gate_log.specs.Reading.{parts_of}
 use Rattle.gate_log.specs.Readers.{ReaderState, IsReading, IsReadTo}
 use Rattle.gate_log.specs.ReadingLaws.{tells_on}
 use Rattle.gate_log.specs.Calls.{EndErrTicks}
-use Rattle.gate_log.specs.CallLaws.{begun_whole}
-use Rattle.gate_log.proofs.Finished.{whole_left, whole_ended, none_more}
+use Rattle.gate_log.specs.CallLaws.{begun_whole, whole_left, whole_ended, none_more}
 use Rattle.gate_log.proofs.logs.records.Goals as goal
 
 -- a refusal at the end

@@ -4,8 +4,7 @@ use Rattle.std.proofs.lemmas.Result.{err_from_is_err_and}
 use Rattle.gate_log.specs.Reading.{parts_of}
 use Rattle.gate_log.specs.Readers.{ReaderState, IsReading, IsReadTo}
 use Rattle.gate_log.specs.ReadingLaws.{tells_on}
-use Rattle.gate_log.specs.CallLaws.{begun_whole}
-use Rattle.gate_log.proofs.Finished.{whole_looked}
+use Rattle.gate_log.specs.CallLaws.{begun_whole, whole_looked}
 use Rattle.gate_log.proofs.logs.sound_records.Goals as goal
 
 pub returns-in_err-reader-clause-clock : goal.returns-in_err-reader-clause-clock
