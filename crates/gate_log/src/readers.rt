@@ -70,6 +70,7 @@ impl LogReader {
         ensures cause { LogCause (D.counts disk.old) (D.counts disk.new) result }
         ensures none { IfOk result (λ reader. reader.given ≡ 0) }
         ensures window { IfOk result (λ reader. windows_in reader.windows.read ≡ 1) }
+        ensures within { IfOk result (λ reader. IsWithin reader.windows) }
         ensures clock { Tells D.told disk.old → BeginTicks 2 (length (D.told.seen disk.old)) (D.told.clock disk.old) (D.told.clock disk.new) result }
         ensures not_full { IfErr result IsNotFull }
         ensures not_damaged { IfErr result IsNotDamaged }
@@ -91,6 +92,7 @@ impl LogReader {
         ensures cause { LogCause (D.counts disk.old) (D.counts disk.new) result }
         ensures none { IfOk result (λ reader. reader.given ≡ 0) }
         ensures window { IfOk result (λ reader. windows_in reader.windows.read ≡ 1) }
+        ensures within { IfOk result (λ reader. IsWithin reader.windows) }
         ensures clock { Tells D.told disk.old → BeginTicks 1 (length (D.told.seen disk.old)) (D.told.clock disk.old) (D.told.clock disk.new) result }
         ensures not_full { IfErr result IsNotFull }
         ensures not_damaged { IfErr result IsNotDamaged }
