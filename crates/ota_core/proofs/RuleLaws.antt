@@ -1,8 +1,8 @@
 -- A legal history keeps each rule. A law on the past, newest first, comes first, and then that of the history.
-use Rattle.std.proofs.Common.{◌≡◌, ℕ, ◌+◌, ◌<◌, ◌≤◌, nat_le, not, Bool, true, false, ◌==◌, ◌&&◌, ◌||◌, if◌then◌else◌, Option, Some, None, is_some, unwrap_or, List, [], ◌∷◌, ◌++◌, length, reverse, refl, sym, ap, ◌∙◌, subst, arith, append_assoc}
+use Rattle.std.proofs.Common.{◌≡◌, ℕ, ◌+◌, ◌<◌, ◌≤◌, nat_le, not, Bool, true, false, ◌==◌, ◌&&◌, ◌||◌, if◌then◌else◌, Option, Some, None, is_some, unwrap_or, List, [], ◌∷◌, ◌++◌, length, reverse, refl, sym, ap, ◌∙◌, subst, arith, append_assoc, ◌⊎◌, inl, inr}
 use Rattle.std.specs.Option.{option_or}
 use Rattle.std.specs.List.{list_any, filter_map, range_with_len}
-use Rattle.std.proofs.lemmas.Bool.{or_parts}
+use Rattle.std.proofs.lemmas.Bool.{or_parts, cases_eq}
 use Rattle.std.proofs.lemmas.Bool.Decides.{nat_tests}
 use Rattle.std.proofs.lemmas.Grind.{common_steps}
 use Rattle.std.proofs.lemmas.List.{reverse-append, reverse-reverse, append-nil, length-append, map-id}
@@ -14,7 +14,7 @@ use Rattle.ota_core.specs.Job.{is_same_job}
 use Rattle.ota_core.specs.Entry.{Reservation, keyset_of, moment_of, counter_in, facts_in, is_open_of, is_close_of, reserved_by, reservation_in, is_reserve_of, is_refusal_of, is_settlement_of}
 use Rattle.ota_core.specs.History.{broken, broken_in_order, broken_in_use, broken_settlement, broken_status, broken_job, broken_moment, unless, next_counter, last_reservation, first_some, IsLegalPast, IsLegal}
 use Rattle.ota_core.specs.HistoryLaws.{both_hold, in_order, not_earlier, unless-holds, not-holds, in_use-opened, in_use-not_closed, is_in_use, reserves_next, legal_past_behind, is_same_keyset-true, is_same_keyset-refl, is_same_job-true, is_same_place-true}
-use Rattle.ota_core.specs.Rules.{is_of, counter_reserved, OpenStandsFirst, OpenStandsOnce, NothingFollowsClose, NoCounterTwice, CountersFollow, EarlierIsRefused, SettledOnceReserved, MomentsNeverFall}
+use Rattle.ota_core.specs.Rules.{is_of, counter_reserved, OpenStandsFirst, OpenStandsOnce, NothingFollowsClose, NoCounterTwice, CountersFollow, EarlierIsRefused, SettledOnceReserved, MomentsNeverFall, CountersHaveAnEnd, RefusalsRanNothing}
 use Rattle.ota_core.specs.declared.jobs.JobId.{JobId}
 use Rattle.ota_core.specs.declared.keysets.KeysetFacts.{KeysetFacts}
 use Rattle.ota_core.specs.declared.entries.Entry.{Entry}
@@ -291,6 +291,43 @@ settled_once_reserved history legal = λ before after entry place is settled.
     let there = legal-there history before after entry legal is in
     let found = settles (reverse before) entry place there.1 settled in
     (rw (← any-reverse (is_reserve_of place) before) found.0, rw (← any-reverse (is_settlement_of place) before) found.1)
+
+-- ---- ends
+
+within : (past : List Entry) (entry : Entry) (place : Reservation) → broken past entry ≡ None → reserved_by entry ≡ Some place → place.counter ≤ 0xFF_FFFF_FFFE
+within past (Reserve by moment keyset counter job tar name body) place legal is =
+    let next = reserves_next past by moment keyset counter job tar name body legal in
+    let same : counter ≡ place.counter = some-counter is in
+    omega (arith, next.0, next.1, same)
+  where
+    some-counter : {keyset : Keyset} {counter : ℕ} {place : Reservation} → Some (record { keyset = keyset; counter = counter }) ≡ Some place → counter ≡ place.counter
+    some-counter is = grind (arith, common_steps, is)
+within past (Open by moment keyset facts) place legal is = cc
+within past (Done by moment keyset counter answer) place legal is = cc
+within past (Refused by moment keyset counter status) place legal is = cc
+within past (Close by moment keyset) place legal is = cc
+
+pub counters_have_an_end : (history : List Entry) → IsLegal history → CountersHaveAnEnd history
+counters_have_an_end history legal = λ before after entry place is reserved.
+    within (reverse before) entry place (legal-there history before after entry legal is).1 reserved
+
+status_allowed : (status : ℕ) → broken_status status ≡ None → (status ≡ 0x07) ⊎ (status ≡ 0x09)
+status_allowed status h =
+    let test : ((status == 0x07) || (status == 0x09)) ≡ true = unless-holds ((status == 0x07) || (status == 0x09)) Illegal.BadStatus h in
+    elim (cases_eq status 0x07) [
+      | inl seven ↦ inl seven
+      | inr other ↦ elim (cases_eq status 0x09) [
+        | inl nine ↦ inr nine
+        | inr neither ↦ absurd (grind (arith, nat_tests, test, other, neither))
+      ]
+    ]
+
+pub refusals_ran_nothing : (history : List Entry) → IsLegal history → RefusalsRanNothing history
+refusals_ran_nothing history legal = λ before after by moment keyset counter status is.
+    let there = legal-there history before after (Refused by moment keyset counter status) legal is in
+    let used = both_hold (broken_in_use keyset (reverse before)) (option_or (broken_settlement (record { keyset = keyset; counter = counter }) (reverse before)) (broken_status status))
+    (in_order (reverse before) (Refused by moment keyset counter status) there.1) in
+    status_allowed status (both_hold (broken_settlement (record { keyset = keyset; counter = counter }) (reverse before)) (broken_status status) used.1).1
 
 -- ---- jobs
 

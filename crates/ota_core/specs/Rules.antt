@@ -1,6 +1,6 @@
 -- The rules of a legal history in their own words. A law speaks of any entry of the history, with those before it and
 -- those behind it.
-use Rattle.std.specs.Prelude.{◌≡◌, ℕ, ◌+◌, ◌≤◌, Bool, true, false, if◌then◌else◌, Option, Some, None, is_some, List, [], ◌∷◌, ◌++◌, length}
+use Rattle.std.specs.Prelude.{◌⊎◌, ◌≡◌, ℕ, ◌+◌, ◌≤◌, Bool, true, false, if◌then◌else◌, Option, Some, None, is_some, List, [], ◌∷◌, ◌++◌, length}
 use Rattle.std.specs.List.{list_any, filter_map, range_with_len}
 use Rattle.ota_core.specs.Keyset.{Keyset, is_same_keyset}
 use Rattle.ota_core.specs.Entry.{Reservation, keyset_of, moment_of, facts_in, is_open_of, is_close_of, reserved_by, reservation_in, is_reserve_of, is_refusal_of, is_settlement_of}
@@ -8,7 +8,7 @@ use Rattle.ota_core.specs.History.{first_some}
 use Rattle.ota_core.specs.declared.jobs.JobId.{JobId}
 use Rattle.ota_core.specs.declared.keysets.KeysetFacts.{KeysetFacts}
 use Rattle.ota_core.specs.declared.entries.Entry.{Entry}
-use Rattle.ota_core.specs.declared.entries.Entry.TheVariants.{Reserve}
+use Rattle.ota_core.specs.declared.entries.Entry.TheVariants.{Reserve, Refused}
 
 -- the entry is of the keyset
 abbrev pub is_of : Keyset → Entry → Bool
@@ -61,3 +61,14 @@ module _ (history : List Entry) where
   abbrev pub MomentsNeverFall : Type 0
   MomentsNeverFall = (before after : List Entry) (first second : Entry) → history ≡ before ++ first ∷ second ∷ after
       → moment_of first ≤ moment_of second
+
+  -- a reserved counter isn't above the last one that may be reserved (ETSI TS 102 225, 5.1.1: a counter has five octets, and the
+  -- greatest blocks it)
+  abbrev pub CountersHaveAnEnd : Type 0
+  CountersHaveAnEnd = (before after : List Entry) (entry : Entry) (place : Reservation) → history ≡ before ++ entry ∷ after
+      → reserved_by entry ≡ Some place → place.counter ≤ 0xFF_FFFF_FFFE
+
+  -- the status of a refusal is 07 or 09: the card used the counter up and ran nothing (ETSI TS 102 225, 5.2.2)
+  abbrev pub RefusalsRanNothing : Type 0
+  RefusalsRanNothing = (before after : List Entry) (by moment : ℕ) (keyset : Keyset) (counter status : ℕ)
+      → history ≡ before ++ Refused by moment keyset counter status ∷ after → (status ≡ 0x07) ⊎ (status ≡ 0x09)

@@ -2,7 +2,7 @@ use crate::application::Tar;
 use crate::keysets::KeysetList;
 
 /// The number of a card.
-#[derive(Clone, Copy, Debug, PartialEq, Eq, PartialOrd, Ord)]
+#[derive(Clone, Copy, Debug, PartialEq, Eq, PartialOrd, Ord, Hash)]
 pub struct CardId(pub u64);
 
 /// What is known of a card as it was issued.

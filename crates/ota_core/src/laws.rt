@@ -1,6 +1,6 @@
 //! What holds of each legal history.
 
-ghost use Rattle.ota_core.specs.Rules.{OpenStandsFirst, OpenStandsOnce, NothingFollowsClose, NoCounterTwice, CountersFollow, EarlierIsRefused, SettledOnceReserved, MomentsNeverFall};
+ghost use Rattle.ota_core.specs.Rules.{OpenStandsFirst, OpenStandsOnce, NothingFollowsClose, NoCounterTwice, CountersFollow, EarlierIsRefused, SettledOnceReserved, MomentsNeverFall, CountersHaveAnEnd, RefusalsRanNothing};
 
 use crate::histories::History;
 
@@ -15,6 +15,8 @@ pub fn legal_histories(history: &History)
     ensures earlier_is_refused { EarlierIsRefused history.now.entries }
     ensures settled_once_reserved { SettledOnceReserved history.now.entries }
     ensures moments_never_fall { MomentsNeverFall history.now.entries }
+    ensures counters_have_an_end { CountersHaveAnEnd history.now.entries }
+    ensures refusals_ran_nothing { RefusalsRanNothing history.now.entries }
 {
     let _entries = history.entries();
 }

@@ -48,6 +48,15 @@ impl Octets {
     }
 }
 
+impl From<Vec<u8>> for Octets {
+    ghost from_gives = { λ octets made. made ≡ octets.items };
+
+    /// The octets of the vector, which aren't copied.
+    fn from(octets: Vec<u8>) -> Octets {
+        Octets { octets }
+    }
+}
+
 /// Room for octets. Contracts see the number of octets that fit.
 #[derive(Debug, Drop)]
 pub struct OctetsRoom {

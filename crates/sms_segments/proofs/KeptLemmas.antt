@@ -1,16 +1,19 @@
 -- What is kept after a piece is kept, or a packet is forgotten, and how long a joined packet is.
-use Rattle.std.proofs.Common.{◌≡◌, ℕ, zero, suc, ◌+◌, ◌-◌, ◌<◌, ◌≤◌, Bool, true, false, not, ◌&&◌, cond, eqb, Option, Some, None, List, [], ◌∷◌, ◌++◌, length, sum_by, refl, sym, ap, ◌∙◌, arith, length-append, add-zero, add-one, inl, inr}
-use Rattle.std.specs.Prelude.{find, filter, unwrap_or}
-use Rattle.std.specs.Option.{option_map, option_or}
-use Rattle.std.proofs.lemmas.Bool.{and_parts, and_from, and_left, and_right, eqb-true, eq-eqb, ne_eqb, cases_eq, cases_Bool, both_ways, cond-true, cond-false, not_from_true, not_from_false, false_from_ne_true}
-use Rattle.std.proofs.lemmas.List.Folds.{find-append}
-use Rattle.std.proofs.lemmas.List.Sums.{sum_by-cons}
+use Rattle.std.proofs.Common.{◌≡◌, ℕ, zero, suc, ◌+◌, ◌-◌, ◌*◌, ◌<◌, ◌≤◌, Bool, true, false, ◌≢◌, ◌&&◌, cond, eqb, leb, Option, Some, None, List, [], ◌++◌, length, refl, sym, ap, subst, ◌∙◌, arith, length-append, add-zero, add-one, inl, inr}
+use Rattle.std.specs.Prelude.{unwrap_or, IfSome}
+use Rattle.std.specs.Option.{option_map}
+use Rattle.std.proofs.lemmas.Bool.{and_parts, and_from, eqb-true, eq-eqb, ne_eqb, cases_eq, cases_Bool, both_ways, false_from_ne_true, le-leb, leb-true}
 use Rattle.ota_core.specs.declared.references.Reference.{Reference}
 use Rattle.ota_core.specs.declared.references.Reference.TheVariants.{Short, Wide}
 use Rattle.sms_segments.specs.declared.concatenations.Concatenation.{Concatenation}
-use Rattle.sms_segments.specs.declared.kept_pieces.KeptPiece.{KeptPiece}
+use Rattle.sms_segments.specs.declared.kept_pieces.Place.{Place}
+use Rattle.sms_segments.specs.contracts.kept_pieces.PlacePartialEq.TheImpl as place_eq
+use Rattle.ota_core.specs.contracts.references.ReferencePartialEq.TheImpl as reference_eq
+use Rattle.arrayvec.specs.ArrayVec.{ArrayVec}
+use Rattle.std.specs.HashMap.{HashMap, get}
+use Rattle.std.specs.Map.{lookup}
 use Rattle.sms_segments.specs.Assembled.{Pieces, is_same, is_same_reference, joined, no_pieces, with_piece}
-use Rattle.sms_segments.specs.Kept.{is_at, kept_in}
+use Rattle.sms_segments.specs.Kept.{AllFit, FitsAt, Pile, is_at, kept_in, kept_with, kept_without, octets_at_most}
 
 -- ---- the same packet
 
@@ -37,83 +40,148 @@ pub is_same-self : (a : Concatenation) → is_same a a ≡ true
 is_same-self a =
     and_from _ _ (and_from _ _ (eq-eqb a.card.0 a.card.0 refl) (own_reference a.reference)) (eq-eqb a.total a.total refl)
 
--- ---- searches in a filtered list
+-- ---- what a map finds
 
-find-kept : {X : Type 0} (q r : X → Bool) (xs : List X) → ((x : X) → q x ≡ true → r x ≡ true) → find q (filter r xs) ≡ find q xs
-find-kept q r [] h = refl
-find-kept q r (x ∷ xs) h = elim (cases_Bool (r x)) [
-  | inl kept ↦ rw kept (ap (cond (q x) (Some x)) (find-kept q r xs h))
-  | inr dropped ↦ elim (cases_Bool (q x)) [
-    | inl found ↦ absurd (both_ways (r x) dropped (h x found))
-    | inr other ↦ rw (dropped, other) (find-kept q r xs h)
+equal_reference : (a b : Reference) → reference_eq.ghosts.eq a b ≡ is_same_reference a b
+equal_reference (Short x) (Short y) = refl
+equal_reference (Wide x) (Wide y) = refl
+equal_reference (Short x) (Wide y) = refl
+equal_reference (Wide x) (Short y) = refl
+
+grouped : (a b c : Bool) → (a && (b && c)) ≡ ((a && b) && c)
+grouped true b c = refl
+grouped false b c = refl
+
+-- a key is equal to a place just where it is that place
+pub eq_at : (of : Concatenation) (place : ℕ) (key : Place) → place_eq.ghosts.eq (record { of = of; place = place }) key ≡ is_at of place key
+eq_at of place key =
+    ap (λ r. (eqb of.card.0 key.of.card.0 && (r && eqb of.total key.of.total)) && eqb place key.place) (equal_reference of.reference key.of.reference)
+    ∙ ap (λ b. b && eqb place key.place) (grouped (eqb of.card.0 key.of.card.0) (is_same_reference of.reference key.of.reference) (eqb of.total key.of.total))
+
+-- what is kept is what the map finds
+pub kept-get : {S : Type 0} (m : HashMap Place (ArrayVec ℕ) S) (of : Concatenation) (place : ℕ)
+    → kept_in m.entries of place ≡ option_map (λ piece. piece.items) (get place_eq.ghosts.eq m (record { of = of; place = place }))
+kept-get m of place = ap (λ test. option_map (λ piece. piece.items) (lookup test m.entries)) (λ i key. sym (eq_at of place key) i)
+
+eqb-sym : (a b : ℕ) → eqb a b ≡ eqb b a
+eqb-sym a b = elim (cases_eq a b) [
+  | inl same ↦ eq-eqb a b same ∙ sym (eq-eqb b a (sym same))
+  | inr other ↦ ne_eqb a b other ∙ sym (ne_eqb b a (λ e. other (sym e)))
+]
+
+-- the same place of the same packet
+same_place : (of : Concatenation) (place : ℕ) (at : Place) → place_eq.ghosts.eq at (record { of = of; place = place }) ≡ (is_same at.of of && eqb place at.place)
+same_place of place at = eq_at at.of at.place (record { of = of; place = place }) ∙ ap (λ b. is_same at.of of && b) (eqb-sym at.place place)
+
+-- what is kept once a piece is put at its place
+kept-put-at : {S : Type 0} (m n : HashMap Place (ArrayVec ℕ) S) (at : Place) (piece : ArrayVec ℕ)
+    → ((key : Place) → get place_eq.ghosts.eq n key ≡ cond (place_eq.ghosts.eq at key) (Some piece) (get place_eq.ghosts.eq m key))
+    → (of : Concatenation) (place : ℕ) → kept_in n.entries of place ≡ kept_with at.of at.place piece.items m.entries of place
+kept-put-at m n at piece puts of place = kept-get n of place ∙ ap (option_map (λ piece. piece.items)) (puts (record { of = of; place = place }))
+    ∙ by_test (is_same at.of of) (eqb place at.place) (same_place of place at) ∙ apart (is_same at.of of) where
+      apart : (one : Bool) → cond one (cond (eqb place at.place) (Some piece.items) (kept_in m.entries of place)) (kept_in m.entries of place)
+          ≡ cond one (with_piece at.place piece.items (kept_in m.entries of)) (kept_in m.entries of) place
+      apart true = refl
+      apart false = refl
+
+      by_test : (one here : Bool) → place_eq.ghosts.eq at (record { of = of; place = place }) ≡ (one && here)
+          → option_map (λ piece. piece.items) (cond (place_eq.ghosts.eq at (record { of = of; place = place })) (Some piece) (get place_eq.ghosts.eq m (record { of = of; place = place })))
+          ≡ cond one (cond here (Some piece.items) (kept_in m.entries of place)) (kept_in m.entries of place)
+      by_test true true is = rw is refl
+      by_test true false is = rw is (sym (kept-get m of place))
+      by_test false here is = rw is (sym (kept-get m of place))
+
+pub kept-put : {S : Type 0} (m n : HashMap Place (ArrayVec ℕ) S) (at : Place) (piece : ArrayVec ℕ)
+    → ((key : Place) → get place_eq.ghosts.eq n key ≡ cond (place_eq.ghosts.eq at key) (Some piece) (get place_eq.ghosts.eq m key))
+    → (of : Concatenation) → kept_in n.entries of ≡ kept_with at.of at.place piece.items m.entries of
+kept-put m n at piece puts of = λ i place. kept-put-at m n at piece puts of place i
+
+-- what is kept once the piece at a place is taken out
+pub kept-drop : {S : Type 0} (m n : HashMap Place (ArrayVec ℕ) S) (at : Place)
+    → ((key : Place) → get place_eq.ghosts.eq n key ≡ cond (place_eq.ghosts.eq at key) None (get place_eq.ghosts.eq m key))
+    → (of : Concatenation) (place : ℕ) → kept_in n.entries of place ≡ cond (is_same at.of of && eqb place at.place) None (kept_in m.entries of place)
+kept-drop m n at drops of place = kept-get n of place ∙ ap (option_map (λ piece. piece.items)) (drops (record { of = of; place = place }))
+    ∙ by_test (is_same at.of of && eqb place at.place) (same_place of place at) where
+      by_test : (here : Bool) → place_eq.ghosts.eq at (record { of = of; place = place }) ≡ here
+          → option_map (λ piece. piece.items) (cond (place_eq.ghosts.eq at (record { of = of; place = place })) None (get place_eq.ghosts.eq m (record { of = of; place = place })))
+          ≡ cond here None (kept_in m.entries of place)
+      by_test true is = rw is refl
+      by_test false is = rw is (sym (kept-get m of place))
+
+-- what is kept where the map finds the same
+pub kept-same : {S : Type 0} (m n : HashMap Place (ArrayVec ℕ) S)
+    → ((key : Place) → get place_eq.ghosts.eq n key ≡ get place_eq.ghosts.eq m key)
+    → (of : Concatenation) → kept_in n.entries of ≡ kept_in m.entries of
+kept-same m n same of = λ i place. (kept-get n of place ∙ ap (option_map (λ piece. piece.items)) (same (record { of = of; place = place })) ∙ sym (kept-get m of place)) i
+
+-- ---- taking a packet out, place by place
+
+-- one place more is taken out
+pub drop-more : (one : Bool) (place before : ℕ) (o : Option (List ℕ))
+    → cond (one && eqb place (before + 1)) None (cond (one && (leb 1 place && leb place before)) None o)
+    ≡ cond (one && (leb 1 place && leb place (before + 1))) None o
+drop-more false place before o = refl
+drop-more true place before o = elim (cases_eq place (before + 1)) [
+  | inl here ↦ rw (eq-eqb place (before + 1) here, le-leb 1 place (omega arith), le-leb place (before + 1) (omega arith)) refl
+  | inr other ↦ rw (ne_eqb place (before + 1) other) (ap (λ b. cond (leb 1 place && b) None o) (both_leb place before other))
+] where
+  both_leb : (place before : ℕ) → place ≢ before + 1 → leb place before ≡ leb place (before + 1)
+  both_leb place before other = elim (cases_Bool (leb place before)) [
+    | inl within ↦ within ∙ sym (le-leb place (before + 1) (omega (arith, leb-true place before within)))
+    | inr beyond ↦ beyond ∙ sym (false_from_ne_true _ (λ le. both_ways _ beyond (le-leb place before (omega (arith, leb-true place (before + 1) le, other)))))
+  ]
+
+abbrev no : (X : Type 0) → Option X
+no X = None
+
+either : {X : Type 0} (b : Bool) → cond b (no X) (no X) ≡ no X
+either true = refl
+either false = refl
+
+-- once each place of a packet is taken out, nothing of it is kept
+taken-out : (of other : Concatenation) (place : ℕ) (o : Option (List ℕ)) → of ≡ other → IfSome o (FitsAt other place)
+    → cond (leb 1 place && leb place of.total) None o ≡ None
+taken-out of other place None same fits = either (leb 1 place && leb place of.total)
+taken-out of other place (Some octets) same fits =
+    rw (le-leb 1 place fits.0, le-leb place of.total (omega (arith, fits.1, ap (λ k. k.total) same))) refl
+
+pub drop-all : (pieces : Pile) (of other : Concatenation) (place : ℕ) → AllFit pieces
+    → cond (is_same of other && (leb 1 place && leb place of.total)) None (kept_in pieces other place) ≡ kept_without of pieces other place
+drop-all pieces of other place fit = elim (cases_Bool (is_same of other)) [
+  | inl one ↦ rw one (taken-out of other place (kept_in pieces other place) (is_same-true of other one) (fit other place))
+  | inr another ↦ rw another refl
+]
+
+-- ---- pieces that fit
+
+-- where the same is kept, all fit as before
+pub fits-same : (old new : Pile) → ((of : Concatenation) → kept_in new of ≡ kept_in old of) → AllFit old → AllFit new
+fits-same old new same fit of place = subst (λ o. IfSome o (FitsAt of place)) (λ i. sym (same of) i place) (fit of place)
+
+fits-none : (of : Concatenation) (place : ℕ) (here : Bool) (o : Option (List ℕ)) → IfSome o (FitsAt of place) → IfSome (cond here None o) (FitsAt of place)
+fits-none of place true o fit = tt
+fits-none of place false o fit = fit
+
+-- where pieces are taken out and others stay, all fit as before
+pub fits-drop : (old new : Pile) (gone : Concatenation → ℕ → Bool) → ((of : Concatenation) (place : ℕ) → kept_in new of place ≡ cond (gone of place) None (kept_in old of place)) → AllFit old → AllFit new
+fits-drop old new gone drops fit of place = subst (λ o. IfSome o (FitsAt of place)) (sym (drops of place)) (fits-none of place (gone of place) (kept_in old of place) (fit of place))
+
+-- where a piece that fits is put, all fit
+fits-with : (arrived : Concatenation) (at : ℕ) (octets : List ℕ) (old : Pile) → FitsAt arrived at octets → AllFit old
+    → (of : Concatenation) (place : ℕ) → IfSome (kept_with arrived at octets old of place) (FitsAt of place)
+fits-with arrived at octets old fits fit of place = elim (cases_Bool (is_same arrived of)) [
+  | inr another ↦ rw another (fit of place)
+  | inl one ↦ elim (cases_eq place at) [
+    | inr other ↦ rw (one, ne_eqb place at other) (fit of place)
+    | inl here ↦
+        let same = is_same-true arrived of one in
+        rw (one, eq-eqb place at here) (subst (λ k. FitsAt k place octets) same (subst (λ p. FitsAt arrived p octets) (sym here) fits))
   ]
 ]
 
-find-dropped : {X : Type 0} (q r : X → Bool) (xs : List X) → ((x : X) → q x ≡ true → r x ≡ false) → find q (filter r xs) ≡ None
-find-dropped q r [] h = refl
-find-dropped q r (x ∷ xs) h = elim (cases_Bool (r x)) [
-  | inl kept ↦ elim (cases_Bool (q x)) [
-    | inl found ↦ absurd (both_ways (r x) (h x found) kept)
-    | inr other ↦ rw (kept, other) (find-dropped q r xs h)
-  ]
-  | inr dropped ↦ rw dropped (find-dropped q r xs h)
-]
-
-option_or-none : {X : Type 0} (o : Option X) → option_or o None ≡ o
-option_or-none None = refl
-option_or-none (Some x) = refl
-
--- ---- keeping
-
--- a piece at a place of one packet is at no other place and of no other packet
-other_place : (of : Concatenation) (place : ℕ) (of' : Concatenation) (place' : ℕ) (piece : KeptPiece) → (is_same of of' && eqb place' place) ≡ false → is_at of' place' piece ≡ true → is_at of place piece ≡ false
-other_place of place of' place' piece differs here = false_from_ne_true _ (λ there.
-    let p = and_parts (is_same piece.of of') (eqb piece.place place') here in
-    let q = and_parts (is_same piece.of of) (eqb piece.place place) there in
-    let same : of ≡ of' = sym (is_same-true piece.of of q.0) ∙ is_same-true piece.of of' p.0 in
-    let at : place' ≡ place = sym (eqb-true piece.place place' p.1) ∙ eqb-true piece.place place q.1 in
-    both_ways _ differs (and_from _ _ (ap (λ k. is_same of k) (sym same) ∙ is_same-self of) (eq-eqb place' place at)))
-
--- what is kept once a piece takes the place of the one before it
-pub kept_in-keep : (xs : List KeptPiece) (new : KeptPiece) (of : Concatenation) (place : ℕ)
-    → kept_in (filter (λ piece. not (is_at new.of new.place piece)) xs ++ new ∷ []) of place
-    ≡ cond (is_same new.of of) (with_piece new.place new.octets.items (kept_in xs of) place) (kept_in xs of place)
-kept_in-keep xs new of place =
-    let rest : List KeptPiece = filter (λ piece. not (is_at new.of new.place piece)) xs in
-    let split = ap (option_map (λ piece. piece.octets.items)) (find-append (is_at of place) rest (new ∷ [])) in
-    elim (cases_Bool (is_same new.of of)) [
-      | inr another ↦
-          let gone : is_at of place new ≡ false = and_left _ _ another in
-          let same = find-kept (is_at of place) (λ piece. not (is_at new.of new.place piece)) xs (λ piece here. not_from_false _ (other_place new.of new.place of place piece (and_left _ _ another) here)) in
-          split ∙ rw (same, gone, another) (ap (option_map (λ piece. piece.octets.items)) (option_or-none (find (is_at of place) xs)))
-      | inl one ↦ elim (cases_eq place new.place) [
-        | inl there ↦
-            let here : is_at of place new ≡ true = and_from _ _ one (eq-eqb new.place place (sym there)) in
-            let none = find-dropped (is_at of place) (λ piece. not (is_at new.of new.place piece)) xs (λ piece found.
-            let moved : is_at of place piece ≡ is_at new.of new.place piece = λ i. is_at (sym (is_same-true new.of of one) i) (there i) piece in
-            not_from_true _ (sym moved ∙ found)) in
-            split ∙ rw (none, here, one, eq-eqb place new.place there) refl
-        | inr elsewhere ↦
-            let gone : is_at of place new ≡ false = and_right _ _ (ne_eqb new.place place (λ e. elsewhere (sym e))) in
-            let same = find-kept (is_at of place) (λ piece. not (is_at new.of new.place piece)) xs (λ piece here. not_from_false _ (other_place new.of new.place of place piece (and_right _ _ (ne_eqb place new.place elsewhere)) here)) in
-            split ∙ rw (same, gone, one, ne_eqb place new.place elsewhere) (ap (option_map (λ piece. piece.octets.items)) (option_or-none (find (is_at of place) xs)))
-      ]
-    ]
-
--- what is kept once a packet is forgotten
-pub kept_in-forget : (xs : List KeptPiece) (gone of : Concatenation) (place : ℕ)
-    → kept_in (filter (λ piece. not (is_same piece.of gone)) xs) of place ≡ cond (is_same gone of) None (kept_in xs of place)
-kept_in-forget xs gone of place = elim (cases_Bool (is_same gone of)) [
-  | inl one ↦
-      let same = is_same-true gone of one in
-      let none = find-dropped (is_at of place) (λ piece. not (is_same piece.of gone)) xs (λ piece found.
-      not_from_true _ (ap (λ k. is_same piece.of k) same ∙ (and_parts (is_same piece.of of) (eqb piece.place place) found).0)) in
-      rw (none, one) refl
-  | inr another ↦
-      let kept = find-kept (is_at of place) (λ piece. not (is_same piece.of gone)) xs (λ piece found. not_from_false _ (false_from_ne_true _ (λ is.
-      both_ways _ another (ap (λ k. is_same k of) (sym (is_same-true piece.of gone is)) ∙ (and_parts (is_same piece.of of) (eqb piece.place place) found).0)))) in
-      rw (kept, another) refl
-]
+pub fits-put : (old new : Pile) (arrived : Concatenation) (at : ℕ) (octets : List ℕ)
+    → ((of : Concatenation) → kept_in new of ≡ kept_with arrived at octets old of) → FitsAt arrived at octets → AllFit old → AllFit new
+fits-put old new arrived at octets puts fits fit of place = subst (λ o. IfSome o (FitsAt of place)) (λ i. sym (puts of) i place) (fits-with arrived at octets old fits fit of place)
 
 -- ---- lengths
 
@@ -137,36 +205,47 @@ joined-none : (n : ℕ) → joined n no_pieces ≡ []
 joined-none zero = refl
 joined-none (suc n) = rw (joined-none n) refl
 
--- the octets of all pieces together
-abbrev pub octets_kept : List KeptPiece → ℕ
-octets_kept xs = sum_by (λ piece. length piece.octets.items) xs
+-- each piece has at most the octets that a message has room for at its place
+abbrev pub AreSmall : Pieces → Type 0
+AreSmall pieces = (place : ℕ) → IfSome (pieces place) (λ octets. length octets ≤ octets_at_most place)
 
-kept_in-cons : (x : KeptPiece) (xs : List KeptPiece) (of : Concatenation) (place : ℕ)
-    → kept_in (x ∷ xs) of place ≡ cond (is_same x.of of) (with_piece x.place x.octets.items (kept_in xs of) place) (kept_in xs of place)
-kept_in-cons x xs of place = elim (cases_Bool (is_same x.of of)) [
-  | inl one ↦ elim (cases_eq place x.place) [
-    | inl here ↦ rw (one, eq-eqb place x.place here, eq-eqb x.place place (sym here)) refl
-    | inr other ↦ rw (one, ne_eqb place x.place other, ne_eqb x.place place (λ e. other (sym e))) refl
-  ]
-  | inr another ↦ rw another refl
+small : (place : ℕ) (o : Option (List ℕ)) → IfSome o (λ octets. length octets ≤ octets_at_most place) → length (unwrap_or o []) ≤ octets_at_most place
+small place (Some octets) h = h
+small place None h = omega arith
+
+fits-small : (of : Concatenation) (place : ℕ) (o : Option (List ℕ)) → IfSome o (FitsAt of place) → IfSome o (λ octets. length octets ≤ octets_at_most place)
+fits-small of place (Some octets) fits = fits.2
+fits-small of place None fits = tt
+
+with-small : (of : Concatenation) (at : ℕ) (octets : List ℕ) (place : ℕ) (here : Bool) (o : Option (List ℕ)) → (here ≡ true → place ≡ at) → FitsAt of at octets → IfSome o (FitsAt of place)
+    → IfSome (cond here (Some octets) o) (λ octets. length octets ≤ octets_at_most place)
+with-small of at octets place true o is fits fit = subst (λ p. length octets ≤ octets_at_most p) (sym (is refl)) fits.2
+with-small of at octets place false o is fits fit = fits-small of place o fit
+
+-- the pieces of a packet with the one that arrives are so
+pub arrival-small : (of : Concatenation) (at : ℕ) (octets : List ℕ) (pieces : Pile) → FitsAt of at octets → AllFit pieces → AreSmall (with_piece at octets (kept_in pieces of))
+arrival-small of at octets pieces fits fit place =
+    with-small of at octets place (eqb place at) (kept_in pieces of place) (λ e. eqb-true place at e) fits (fit of place)
+
+pub at_most-134 : (place : ℕ) → octets_at_most place ≤ 134
+at_most-134 place = elim (cases_Bool (eqb place 1)) [
+  | inl first ↦ rw first (omega arith)
+  | inr later ↦ rw later (omega arith)
 ]
 
-pub joined-kept : (n : ℕ) (xs : List KeptPiece) (of : Concatenation) → length (joined n (kept_in xs of)) ≤ octets_kept xs
-joined-kept n [] of = rw (joined-none n) (omega arith)
-joined-kept n (x ∷ xs) of =
-    let cons = sum_by-cons (λ piece. length piece.octets.items) x xs in
-    elim (cases_Bool (is_same x.of of)) [
-      | inl one ↦
-          let is : kept_in (x ∷ xs) of ≡ with_piece x.place x.octets.items (kept_in xs of) = λ i place. (kept_in-cons x xs of place ∙ cond-true (is_same x.of of) _ _ one) i in
-          omega (arith, ap (λ pieces. length (joined n pieces)) is, joined-with_piece n x.place x.octets.items (kept_in xs of), joined-kept n xs of, cons)
-      | inr another ↦
-          let is : kept_in (x ∷ xs) of ≡ kept_in xs of = λ i place. (kept_in-cons x xs of place ∙ cond-false (is_same x.of of) _ _ another) i in
-          omega (arith, ap (λ pieces. length (joined n pieces)) is, joined-kept n xs of, cons)
-    ]
+-- n pieces, one at least, have at most 132 octets and 134 for each behind the first
+pub joined-small : (n : ℕ) (pieces : Pieces) → AreSmall pieces → length (joined (suc n) pieces) ≤ 132 + 134 * n
+joined-small zero pieces are = small 1 (pieces 1) (are 1)
+joined-small (suc n) pieces are =
+    let last = small (suc (suc n)) (pieces (suc (suc n))) (are (suc (suc n))) in
+    let front = joined-small n pieces are in
+    let times : 134 * suc n ≡ 134 * n + 134 = omega arith in
+    omega (arith, times, front, last, at_most-134 (suc (suc n)), length-append (joined (suc n) pieces) (unwrap_or (pieces (suc (suc n))) []))
 
--- a packet has at most the octets that are kept and those of the last piece
-pub joined-arrival : (n place : ℕ) (octets : List ℕ) (xs : List KeptPiece) (of : Concatenation) → length (joined n (with_piece place octets (kept_in xs of))) ≤ length octets + octets_kept xs
-joined-arrival n place octets xs of = omega (arith, joined-with_piece n place octets (kept_in xs of), joined-kept n xs of)
+-- any number of pieces up to 255 have at most as many octets as the longest packet
+pub joined-longest : (n : ℕ) (pieces : Pieces) → n ≤ 255 → AreSmall pieces → length (joined n pieces) ≤ 34168
+joined-longest zero pieces few are = omega arith
+joined-longest (suc n) pieces few are = omega (arith, joined-small n pieces are)
 
 joined-more : (before : ℕ) (k n : ℕ) (pieces : Pieces) → n ≡ before + k → length (joined before pieces) ≤ length (joined n pieces)
 joined-more before zero n pieces is = omega (arith, ap (λ m. length (joined m pieces)) is, ap (λ m. length (joined m pieces)) (add-zero before))

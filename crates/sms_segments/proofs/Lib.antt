@@ -1,4 +1,4 @@
 pub mod CutLemmas
 pub mod KeptLemmas
-pub mod TakeLemmas
 pub mod ArrivalLemmas
+pub mod TakeLemmas

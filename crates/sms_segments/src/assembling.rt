@@ -1,15 +1,18 @@
 //! Packets from messages.
 
-ghost use Rattle.std.specs.Prelude.{◌≡◌, [], ◌∷◌, ◌≤◌, List, IfOk, IsOk, OnOk, OnErr, length, None};
+ghost use Rattle.std.specs.Prelude.{◌≡◌, [], ◌∷◌, ◌≤◌, List, IfOk, IsOk, OnOk, OnErr, None, length, vec_capacity};
 ghost use Rattle.sms_segments.specs.Header.{header_of};
 
 use crate::concatenations::Concatenation;
 use crate::headers::{Header, header_of};
-use crate::kept_pieces::{Arrival, KeptPiece, forget, is_whole, join, keep, octets_wanted};
-use crate::spare_rooms::SpareRoom;
+use crate::kept_pieces::{KeptPieces, Place};
 use ota_core::{CardId, Memory, Octets};
 use std::alloc::Global;
 use std::marker::Model;
+use std::mem::replace;
+
+/// The most octets of a packet in 255 messages (3GPP TS 23.040, 9.2.3.24.1).
+const LONGEST_PACKET: usize = 34_168;
 
 /// What a message is answered.
 #[derive(Debug, Drop)]
@@ -26,13 +29,15 @@ pub enum Push {
 ///
 /// Of each packet, named by its card, its reference and its total, the last piece of each place is kept. The
 /// packet is whole at the piece that fills the last place, and is then forgotten (3GPP TS 23.040,
-/// 9.2.3.24.1). A message that is the only one of its packet is whole by itself.
-#[derive(Debug, Drop)]
+/// 9.2.3.24.1). A message that is the only one of its packet is whole by itself. The pieces of a packet are found by its
+/// name, and its octets are copied once, into the packet that is handed out.
+#[derive(Drop)]
 pub struct Assembler {
     element: u8,
-    pieces: Vec<KeptPiece>,
+    pieces: KeptPieces,
+    /// Room for the next packet that is whole.
     packet: Vec<u8>,
-    spare: SpareRoom,
+    alloc: Global,
 }
 
 impl Model for Assembler {
@@ -41,13 +46,13 @@ impl Model for Assembler {
 
     ghost Value = { Kept };
 
-    ghost view = { λ a. record { element = a.element; pieces = a.pieces.items; room = room_for a.pieces.items (vec_capacity a.pieces) (vec_capacity a.packet) a.spare } };
+    ghost view = { λ a. record { element = a.element; pieces = a.pieces.pieces; room = room_for a.pieces.room (vec_capacity a.packet) } };
 }
 
 impl Assembler {
     ghost use Rattle.sms_segments.specs.declared.concatenations.Concatenation.{Concatenation};
     ghost use Rattle.sms_segments.specs.Assembled.{OfCard, answer_to, if_whole, with_piece};
-    ghost use Rattle.sms_segments.specs.Kept.{Keeps, kept_in, kept_after};
+    ghost use Rattle.sms_segments.specs.Kept.{FitsAt, Keeps, kept_after, kept_in};
 
     /// An assembler of packets for this element (3GPP TS 31.115, 4.2 and 4.4), with nothing kept yet.
     pub fn new(alloc: Global, element: u8) -> Assembler
@@ -56,9 +61,9 @@ impl Assembler {
     {
         Assembler {
             element,
-            pieces: Vec::new(alloc),
+            pieces: KeptPieces::new(alloc),
             packet: Vec::new(alloc),
-            spare: SpareRoom::none(alloc),
+            alloc,
         }
     }
 
@@ -66,13 +71,12 @@ impl Assembler {
     pub fn make_room(&mut self) -> Result<(), Memory>
         ensures room { OnOk result (1 ≤ self.new.room) }
         ensures element { self.new.element ≡ self.old.element }
-        ensures pieces { self.new.pieces ≡ self.old.pieces }
+        ensures pieces { (of : Concatenation) → kept_in self.new.pieces of ≡ kept_in self.old.pieces of }
     {
-        let wanted = octets_wanted(&self.pieces)?;
-        self.pieces.reserve(1)?;
+        self.pieces.make_room()?;
         self.packet.clear();
-        self.packet.reserve(wanted)?;
-        self.spare.make(wanted)
+        self.packet.reserve(LONGEST_PACKET)?;
+        Ok(())
     }
 
     /// Takes the next message of a card.
@@ -92,7 +96,7 @@ impl Assembler {
         };
         let octets = &message[header.len()..];
         match header {
-            Header::Only => Ok(Push::Whole(self.spare.packet(octets)?)),
+            Header::Only => Ok(Push::Whole(self.copied(octets)?)),
             Header::Part {
                 reference,
                 total,
@@ -103,27 +107,52 @@ impl Assembler {
                     reference,
                     total,
                 };
-                self.take(&Arrival { of, place }, octets)
+                self.take(&Place { of, place }, octets)
             }
         }
     }
 
     /// Takes a piece of a packet.
-    fn take(&mut self, arrival: &Arrival, octets: &[u8]) -> Result<Push, Memory>
-        requires { length octets.now ≤ 134 }
+    fn take(&mut self, arrival: &Place, octets: &[u8]) -> Result<Push, Memory>
+        requires { FitsAt arrival.now.of arrival.now.place octets.now }
         ensures answer { IfOk result (λ push. push ≡ if_whole arrival.now.of.total (with_piece arrival.now.place octets.now (kept_in self.old.pieces arrival.now.of))) }
-        ensures keeps { OnOk result ((of : Concatenation) → kept_in self.new.pieces of ≡ kept_after self.old.pieces arrival.now.of arrival.now.place octets.now of) }
+        ensures keeps { OnOk result ((of : Concatenation) → kept_in self.new.pieces of ≡ kept_after arrival.now.of arrival.now.place octets.now self.old.pieces of) }
         ensures element { self.new.element ≡ self.old.element }
         ensures err { OnErr result (self.new.pieces ≡ self.old.pieces) }
         ensures room { 1 ≤ self.old.room → IsOk result }
     {
-        if !is_whole(&self.pieces, arrival, octets) {
-            keep(&mut self.pieces, arrival, octets)?;
+        if !self.pieces.is_whole(arrival, octets) {
+            self.pieces.keep(*arrival, octets)?;
             return Ok(Push::More);
         }
-        join(&self.pieces, arrival, octets, &mut self.packet)?;
-        let packet = self.spare.packet(&self.packet)?;
-        forget(&mut self.pieces, &arrival.of);
-        Ok(Push::Whole(packet))
+        let mut packet = self.take_room();
+        self.pieces.join(arrival, octets, &mut packet)?;
+        self.pieces.forget(&arrival.of);
+        Ok(Push::Whole(Octets::from(packet)))
+    }
+
+    /// The packet that stands in its only message.
+    fn copied(&mut self, octets: &[u8]) -> Result<Octets, Memory>
+        requires { length octets.now ≤ 137 }
+        ensures octets { IfOk result (λ packet. packet ≡ octets.now) }
+        ensures element { self.new.element ≡ self.old.element }
+        ensures pieces { self.new.pieces ≡ self.old.pieces }
+        ensures room { 1 ≤ self.old.room → IsOk result }
+    {
+        let mut packet = self.take_room();
+        packet.extend_from_slice(octets)?;
+        Ok(Octets::from(packet))
+    }
+
+    /// The room for the next packet.
+    fn take_room(&mut self) -> Vec<u8>
+        ensures empty { result.items ≡ [] }
+        ensures room { 1 ≤ self.old.room → 34168 ≤ vec_capacity result }
+        ensures element { self.new.element ≡ self.old.element }
+        ensures pieces { self.new.pieces ≡ self.old.pieces }
+    {
+        let mut room = replace(&mut self.packet, Vec::new(self.alloc));
+        room.clear();
+        room
     }
 }

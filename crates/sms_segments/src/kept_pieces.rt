@@ -1,154 +1,163 @@
 //! The pieces that are kept of packets that aren't whole.
 
-ghost use Rattle.std.specs.Prelude.{◌≡◌, ◌<◌, ◌≤◌, ℕ, find, filter, not, if◌then◌else◌, length, IfOk, OnOk, OnErr, IsOk, vec_len, vec_capacity};
-ghost use Rattle.std.specs.Option.{option_copied, option_map};
+ghost use Rattle.std.specs.Prelude.{◌≡◌, ◌≤◌, [], length, IsOk, OnOk, OnErr, vec_capacity};
+ghost use Rattle.std.specs.Option.{option_map};
+ghost use Rattle.sms_segments.specs.Assembled.{is_whole, joined, with_piece};
 ghost use Rattle.sms_segments.specs.declared.concatenations.Concatenation.{Concatenation};
-ghost use Rattle.sms_segments.specs.Assembled.{is_same, is_whole, joined, with_piece};
-ghost use Rattle.sms_segments.specs.Kept.{is_at, kept_in, octets_wanted};
+ghost use Rattle.sms_segments.specs.Kept.{FitsAt, kept_in, kept_with, kept_without};
 
 use crate::concatenations::Concatenation;
 use arrayvec::ArrayVec;
 use ota_core::Memory;
+use std::alloc::Global;
+use std::collections::HashMap;
+use std::marker::Model;
 
-/// A piece of a packet.
-#[derive(Debug, Drop)]
-pub struct KeptPiece {
+/// Where a piece belongs.
+#[derive(Clone, Copy, Debug, PartialEq, Eq, Hash)]
+pub struct Place {
     pub of: Concatenation,
-    /// Its place, from 1.
-    pub place: u8,
-    /// What stands behind its header.
-    pub octets: ArrayVec<u8, 134>,
-}
-
-impl KeptPiece {
-    fn is_at(&self, of: &Concatenation, place: u8) -> bool
-        ensures { result ≡ is_at of.now place self.now }
-    {
-        self.of.is_same(of) && self.place == place
-    }
-
-    fn is_elsewhere(&self, of: &Concatenation, place: u8) -> bool
-        ensures { result ≡ not (is_at of.now place self.now) }
-    {
-        !self.is_at(of, place)
-    }
-
-    fn is_of_another(&self, of: &Concatenation) -> bool
-        ensures { result ≡ not (is_same self.now.of of.now) }
-    {
-        !self.of.is_same(of)
-    }
-}
-
-/// Where a piece belongs that arrives.
-#[derive(Clone, Copy, Debug, PartialEq, Eq)]
-pub struct Arrival {
-    pub of: Concatenation,
-    /// Its place, from 1.
+    /// Its place in its packet, from 1.
     pub place: u8,
 }
 
-/// The piece that is kept of a packet at a place.
-fn find<'a>(pieces: &'a [KeptPiece], of: &Concatenation, place: u8) -> Option<&'a KeptPiece>
-    ensures { option_copied result ≡ find (is_at of.now place) pieces.now }
-{
-    pieces.iter().find(|piece| piece.is_at(of, place))
+/// Pieces, each found by its packet and its place. Contracts see what is kept of each packet at each place, and for how many
+/// more there surely is room.
+#[derive(Drop)]
+pub struct KeptPieces {
+    pieces: HashMap<Place, ArrayVec<u8, 134>>,
 }
 
-/// The octets at a place of the packet of which a piece arrives, where there are any.
-fn octets_at<'a>(
-    pieces: &'a [KeptPiece],
-    arrival: &Arrival,
-    octets: &'a [u8],
-    place: u8,
-) -> Option<&'a [u8]>
-    ensures { option_map (λ found. found.now) result ≡ with_piece arrival.now.place octets.now (kept_in pieces.now arrival.now.of) place }
+impl Model for KeptPieces {
+    ghost use Rattle.std.specs.HashMap.{spare};
+    ghost use Rattle.sms_segments.specs.Kept.{AllFit, Holding};
+
+    ghost Value = { Holding };
+
+    ghost view = { λ kept. record { pieces = kept.pieces.entries; room = spare kept.pieces } };
+
+    ghost invariant = { λ kept. AllFit kept.pieces.entries };
+}
+
+/// The octets that are kept at a place.
+fn octets_at<'a>(pieces: &'a HashMap<Place, ArrayVec<u8, 134>>, at: &Place) -> Option<&'a [u8]>
+    ensures { option_map (λ found. found.now) result ≡ kept_in pieces.now.entries at.now.of at.now.place }
 {
-    if place == arrival.place {
-        return Some(octets);
-    }
-    match find(pieces, &arrival.of, place) {
-        Some(piece) => Some(piece.octets.as_slice()),
+    match pieces.get(at) {
+        Some(piece) => Some(piece.as_slice()),
         None => None,
     }
 }
 
-/// Whether the piece that arrives fills the last place of its packet.
-pub fn is_whole(pieces: &[KeptPiece], arrival: &Arrival, octets: &[u8]) -> bool
-    ensures { result ≡ is_whole arrival.now.of.total (with_piece arrival.now.place octets.now (kept_in pieces.now arrival.now.of)) }
+/// The octets at a place of the packet of which a piece arrives, where there are any.
+fn octets_with<'a>(
+    pieces: &'a HashMap<Place, ArrayVec<u8, 134>>,
+    arrival: &Place,
+    octets: &'a [u8],
+    place: u8,
+) -> Option<&'a [u8]>
+    ensures { option_map (λ found. found.now) result ≡ with_piece arrival.now.place octets.now (kept_in pieces.now.entries arrival.now.of) place }
 {
-    let mut place = arrival.of.total;
-    while place > 0 {
-        if octets_at(pieces, arrival, octets, place).is_none() {
-            return false;
-        }
-        place -= 1;
+    if place == arrival.place {
+        return Some(octets);
     }
-    true
-}
-
-/// Keeps the piece that arrives, in the place of one that is there already.
-pub fn keep(pieces: &mut Vec<KeptPiece>, arrival: &Arrival, octets: &[u8]) -> Result<(), Memory>
-    requires { length octets.now ≤ 134 }
-    ensures ok { OnOk result ((of : Concatenation) (place : ℕ) → kept_in pieces.new.items of place ≡ (if is_same arrival.now.of of then with_piece arrival.now.place octets.now (kept_in pieces.old.items of) place else kept_in pieces.old.items of place)) }
-    ensures err { OnErr result (pieces.new.items ≡ pieces.old.items) }
-    ensures room { vec_len pieces.old < vec_capacity pieces.old → IsOk result }
-{
-    pieces.reserve(1)?;
-    drop_at(pieces, &arrival.of, arrival.place);
-    let mut kept = ArrayVec::new();
-    let _ = kept.try_extend_from_slice(octets);
-    pieces
-        .push(KeptPiece {
+    octets_at(
+        pieces,
+        &Place {
             of: arrival.of,
-            place: arrival.place,
-            octets: kept,
-        })
-        .unwrap();
-    Ok(())
+            place,
+        },
+    )
 }
 
-fn drop_at(pieces: &mut Vec<KeptPiece>, of: &Concatenation, place: u8)
-    ensures pieces { pieces.new.items ≡ filter (λ piece. not (is_at of.now place piece)) pieces.old.items }
-    ensures len { vec_len pieces.new ≤ vec_len pieces.old }
-    ensures capacity { vec_capacity pieces.new ≡ vec_capacity pieces.old }
-{
-    pieces.retain(|piece| piece.is_elsewhere(of, place));
-}
-
-/// Drops all that is kept of a packet.
-pub fn forget(pieces: &mut Vec<KeptPiece>, of: &Concatenation)
-    ensures pieces { pieces.new.items ≡ filter (λ piece. not (is_same piece.of of.now)) pieces.old.items }
-{
-    pieces.retain(|piece| piece.is_of_another(of));
-}
-
-/// Puts the packet together that the arriving piece makes whole.
-pub fn join(
-    pieces: &[KeptPiece],
-    arrival: &Arrival,
-    octets: &[u8],
-    packet: &mut Vec<u8>,
-) -> Result<(), Memory>
-    ensures ok { OnOk result (packet.new.items ≡ joined arrival.now.of.total (with_piece arrival.now.place octets.now (kept_in pieces.now arrival.now.of))) }
-    ensures room { length (joined arrival.now.of.total (with_piece arrival.now.place octets.now (kept_in pieces.now arrival.now.of))) ≤ vec_capacity packet.old → IsOk result }
-{
-    packet.clear();
-    for before in 0..arrival.of.total {
-        if let Some(next) = octets_at(pieces, arrival, octets, before + 1) {
-            packet.extend_from_slice(next)?;
+impl KeptPieces {
+    /// None.
+    pub fn new(alloc: Global) -> KeptPieces
+        ensures { result.pieces ≡ [] }
+    {
+        KeptPieces {
+            pieces: HashMap::new(alloc),
         }
     }
-    Ok(())
-}
 
-/// More octets than any packet has that the next message makes whole.
-pub fn octets_wanted(pieces: &[KeptPiece]) -> Result<usize, Memory>
-    ensures { IfOk result (λ wanted. wanted ≡ octets_wanted pieces.now) }
-{
-    let mut wanted = 137usize;
-    for piece in pieces {
-        wanted = wanted.checked_add(piece.octets.len()).ok_or(Memory)?;
+    /// Makes room for one more.
+    pub fn make_room(&mut self) -> Result<(), Memory>
+        ensures ok { OnOk result (1 ≤ self.new.room) }
+        ensures pieces { (of : Concatenation) → kept_in self.new.pieces of ≡ kept_in self.old.pieces of }
+    {
+        self.pieces.reserve(1)?;
+        Ok(())
     }
-    Ok(wanted)
+
+    /// Whether the piece that arrives fills the last place of its packet.
+    pub fn is_whole(&self, arrival: &Place, octets: &[u8]) -> bool
+        ensures { result ≡ is_whole arrival.now.of.total (with_piece arrival.now.place octets.now (kept_in self.now.pieces arrival.now.of)) }
+    {
+        let mut place = arrival.of.total;
+        while place > 0 {
+            if octets_with(&self.pieces, arrival, octets, place).is_none() {
+                return false;
+            }
+            place -= 1;
+        }
+        true
+    }
+
+    /// Keeps the piece that arrives, in the place of one that is there already.
+    pub fn keep(&mut self, arrival: Place, octets: &[u8]) -> Result<(), Memory>
+        requires { FitsAt arrival.of arrival.place octets.now }
+        ensures ok { OnOk result ((of : Concatenation) → kept_in self.new.pieces of ≡ kept_with arrival.of arrival.place octets.now self.old.pieces of) }
+        ensures err { OnErr result (self.new.pieces ≡ self.old.pieces) }
+        ensures room { 1 ≤ self.old.room → IsOk result }
+    {
+        let mut kept = ArrayVec::new();
+        let _ = kept.try_extend_from_slice(octets);
+        match self.pieces.insert(arrival, kept) {
+            Ok(_) => Ok(()),
+            Err(_) => Err(Memory),
+        }
+    }
+
+    /// Drops all that is kept of a packet.
+    pub fn forget(&mut self, of: &Concatenation)
+        ensures { (other : Concatenation) → kept_in self.new.pieces other ≡ kept_without of.now self.old.pieces other }
+    {
+        for before in 0..of.total {
+            self.pieces.remove(&Place {
+                of: *of,
+                place: before + 1,
+            });
+        }
+    }
+
+    /// How many octets the packet has that the arriving piece makes whole.
+    fn joined_len(&self, arrival: &Place, octets: &[u8]) -> usize
+        requires { FitsAt arrival.now.of arrival.now.place octets.now }
+        ensures len { result ≡ length (joined arrival.now.of.total (with_piece arrival.now.place octets.now (kept_in self.now.pieces arrival.now.of))) }
+        ensures most { result ≤ 34168 }
+    {
+        let mut len = 0;
+        for before in 0..arrival.of.total {
+            if let Some(next) = octets_with(&self.pieces, arrival, octets, before + 1) {
+                len += next.len();
+            }
+        }
+        len
+    }
+
+    /// Puts the packet together that the arriving piece makes whole, in a vector that is empty.
+    pub fn join(&self, arrival: &Place, octets: &[u8], packet: &mut Vec<u8>) -> Result<(), Memory>
+        requires fits { FitsAt arrival.now.of arrival.now.place octets.now }
+        requires empty { packet.old.items ≡ [] }
+        ensures ok { OnOk result (packet.new.items ≡ joined arrival.now.of.total (with_piece arrival.now.place octets.now (kept_in self.now.pieces arrival.now.of))) }
+        ensures room { 34168 ≤ vec_capacity packet.old → IsOk result }
+    {
+        packet.reserve(self.joined_len(arrival, octets))?;
+        for before in 0..arrival.of.total {
+            if let Some(next) = octets_with(&self.pieces, arrival, octets, before + 1) {
+                packet.extend_from_slice(next)?;
+            }
+        }
+        Ok(())
+    }
 }

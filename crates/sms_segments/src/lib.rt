@@ -11,7 +11,6 @@ mod cutting;
 mod headers;
 mod kept_pieces;
 mod laws;
-mod spare_rooms;
 
 pub use assembling::{Assembler, Push};
 pub use cutting::{piece, pieces_of};

@@ -1,4 +1,4 @@
-use Rattle.ota_core.proofs.RuleLaws.{open_stands_first, open_stands_once, nothing_follows_close, no_counter_twice, counters_follow, earlier_is_refused, settled_once_reserved, moments_never_fall}
+use Rattle.ota_core.proofs.RuleLaws.{open_stands_first, open_stands_once, nothing_follows_close, no_counter_twice, counters_follow, earlier_is_refused, settled_once_reserved, moments_never_fall, counters_have_an_end, refusals_ran_nothing}
 use Rattle.ota_core.proofs.laws.legal_histories.Goals as goal
 
 pub returns-clause-open_stands_first : goal.returns-clause-open_stands_first
@@ -24,3 +24,9 @@ returns-clause-settled_once_reserved c = settled_once_reserved _ c.entries-entri
 
 pub returns-clause-moments_never_fall : goal.returns-clause-moments_never_fall
 returns-clause-moments_never_fall c = moments_never_fall _ c.entries-entries.ensures.legal
+
+pub returns-clause-counters_have_an_end : goal.returns-clause-counters_have_an_end
+returns-clause-counters_have_an_end c = counters_have_an_end _ c.entries-entries.ensures.legal
+
+pub returns-clause-refusals_ran_nothing : goal.returns-clause-refusals_ran_nothing
+returns-clause-refusals_ran_nothing c = refusals_ran_nothing _ c.entries-entries.ensures.legal
