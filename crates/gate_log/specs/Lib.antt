@@ -20,4 +20,5 @@ pub mod Opening
 pub mod Formatting
 pub mod Batches
 pub mod Spelled
+pub mod SpelledBack
 pub mod Turns
