@@ -11,7 +11,7 @@ use Rattle.gate_log.specs.Answers.{Refuses, heading_answer, IsNotFull, IsNotDama
 use Rattle.gate_log.specs.declared.standings.Standing.{Standing}
 use Rattle.gate_log.specs.declared.standings.Standing.TheVariants as standing
 use Rattle.gate_log.specs.Reading.{Reading, parts_of}
-use Rattle.gate_log.specs.Reading.Reading.{Unformatted, NotALog, OtherHead, Damaged, Opened}
+use Rattle.gate_log.specs.Reading.Reading.{Unformatted, NotALog, OtherHead, Opened}
 use Rattle.gate_log.specs.Windows.{rest_of, IsWithin, windows_in}
 use Rattle.gate_log.specs.Readers.{ReaderState, ended_at, has_ended, in_front, left_at, IsReading, IsReadTo, ReadOnTicks}
 use Rattle.gate_log.specs.Calls.{FirstErrTicks, BeginErrTicks, BeginTicks, calls_of_end, EndTicks, AreRead, WholeErrTicks, WholeTicks}

@@ -1,6 +1,6 @@
 -- How many calls of a disk the calls of a log make: how far they take its clock. A call that failed is one of them, and
 -- one that found no memory isn't.
-use Rattle.std.specs.Prelude.{◌≡◌, ◌==◌, ℕ, ◌+◌, ◌-◌, ◌<◌, ◌≤◌, min, if◌then◌else◌, List, length, Result, Ok, Err}
+use Rattle.std.specs.Prelude.{◌≡◌, ◌==◌, ℕ, ◌+◌, ◌-◌, ◌<◌, ◌≤◌, min, if◌then◌else◌, length, Result, Ok, Err}
 use Rattle.disk_model.specs.declared.faults.DiskFault.{DiskFault}
 use Rattle.disk_model.specs.declared.faults.DiskFault.TheVariants as fault
 use Rattle.gate_log.specs.declared.log_errors.LogErr.{LogErr}

@@ -1,5 +1,5 @@
 use Rattle.std.proofs.Common.{◌≡◌, List, ℕ, [], length, sym, ◌∙◌, ap, subst}
-use Rattle.gate_log.specs.Readers.{ReaderState, IsReading, IsReadTo, FinishAnswer}
+use Rattle.gate_log.specs.Readers.{IsReading, IsReadTo, FinishAnswer}
 use Rattle.gate_log.specs.ReadingLaws.{tells_on, look_on}
 use Rattle.std.proofs.lemmas.Result.{err_from_is_err_and}
 use Rattle.gate_log.specs.Reading.{parts_of}

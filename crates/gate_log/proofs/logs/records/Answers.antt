@@ -2,7 +2,7 @@ use Rattle.std.proofs.Common.{◌≡◌, ℕ, List, [], Result, Ok, Err, length,
 use Rattle.std.proofs.lemmas.Result.{err_from_is_err_and}
 use Rattle.gate_log.specs.declared.log_errors.LogErr.{LogErr}
 use Rattle.gate_log.specs.Reading.{parts_of}
-use Rattle.gate_log.specs.Readers.{ReaderState, IsReading, IsReadTo}
+use Rattle.gate_log.specs.Readers.{IsReading, IsReadTo}
 use Rattle.gate_log.specs.ReadingLaws.{tells_on}
 use Rattle.gate_log.specs.Calls.{EndErrTicks}
 use Rattle.gate_log.specs.CallLaws.{begun_whole, whole_left, whole_ended, none_more}

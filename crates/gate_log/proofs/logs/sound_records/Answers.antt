@@ -1,8 +1,8 @@
-use Rattle.std.proofs.Common.{◌≡◌, ℕ, List, [], Ok, Err, length, refl, sym, ◌∙◌, ap, subst}
+use Rattle.std.proofs.Common.{◌≡◌, ℕ, List, [], length, sym, subst}
 use Rattle.std.specs.Prelude.{IfOk}
 use Rattle.std.proofs.lemmas.Result.{err_from_is_err_and}
 use Rattle.gate_log.specs.Reading.{parts_of}
-use Rattle.gate_log.specs.Readers.{ReaderState, IsReading, IsReadTo}
+use Rattle.gate_log.specs.Readers.{IsReading, IsReadTo}
 use Rattle.gate_log.specs.ReadingLaws.{tells_on}
 use Rattle.gate_log.specs.CallLaws.{begun_whole, whole_looked}
 use Rattle.gate_log.proofs.logs.sound_records.Goals as goal
