@@ -1,5 +1,5 @@
 -- Laws of entries that are added one after the other.
-use Rattle.std.proofs.Common.{◌≡◌, ◌⊎◌, ℕ, ◌+◌, ◌-◌, ◌<◌, ◌≤◌, All, List, [], ◌∷◌, ◌++◌, length, reverse, Option, None, Result, Ok, Err, refl, sym, ap, subst, ◌∙◌, inl, inr, arith, length-append}
+use Rattle.std.proofs.Common.{◌≡◌, ◌⊎◌, ℕ, ◌+◌, ◌-◌, ◌<◌, ◌≤◌, All, List, [], ◌∷◌, ◌++◌, length, reverse, None, Result, Ok, Err, refl, sym, ap, subst, ◌∙◌, inl, inr, arith, length-append}
 use Rattle.std.proofs.lemmas.List.{length-map}
 use Rattle.std.proofs.lemmas.List.Elements.{All-append}
 use Rattle.std.proofs.lemmas.List.Sums.{sum_by-cons}
@@ -20,7 +20,8 @@ use Rattle.counter_journal.specs.EntryRanges.{IsEntry, IsOfLane, IsEntryOf, IsHi
 use Rattle.counter_journal.specs.Journal.{journal_head}
 use Rattle.counter_journal.specs.JournalLaws.{written_more}
 use Rattle.counter_journal.specs.JournalReading.{parts_for, AreWritten, Holds, JournalValue, GoesOn, IsReady}
-use Rattle.counter_journal.specs.JournalKept.{StandsIf, IsJournalKept}
+use Rattle.counter_journal.specs.JournalKept.{IsJournalKept}
+use Rattle.keyset_book.specs.Book.{StandsFor}
 use Rattle.keyset_book.specs.declared.books.Book.{Book}
 use Rattle.counter_journal.specs.StandingLaws.{ready_holds}
 use Rattle.ota_core.specs.History.{broken_batch}
@@ -153,8 +154,8 @@ abbrev cleared_of : BatchState → BatchState
 cleared_of put = record { parts = []; parts_room = put.parts_room + length put.parts; octets_room = put.octets_room + octets_in put.parts }
 
 -- the journal is kept where entries were put into its batch, added to its history, and taken out of the batch
-pub kept_added : (lane lanes : ℕ) (old new : HistoryValue) (book kept_book : Option Book) (entries : List Entry) (batch put cleared : BatchState) (batch_room room count : ℕ) → IsJournalKept lane lanes old book batch batch_room room
-    → StandsIf kept_book (old.entries ++ entries) → new.entries ≡ old.entries ++ entries → old.room ≤ new.room + length entries → All IsEntry entries → All (IsOfLane lane lanes) entries → broken_batch (reverse old.entries) entries ≡ None
+pub kept_added : (lane lanes : ℕ) (old new : HistoryValue) (book kept_book : Book) (entries : List Entry) (batch put cleared : BatchState) (batch_room room count : ℕ) → IsJournalKept lane lanes old book batch batch_room room
+    → StandsFor kept_book (old.entries ++ entries) → new.entries ≡ old.entries ++ entries → old.room ≤ new.room + length entries → All IsEntry entries → All (IsOfLane lane lanes) entries → broken_batch (reverse old.entries) entries ≡ None
     → put.parts ≡ parts_for entries → put.parts_room + length entries ≡ batch.parts_room → put.octets_room + octets_in put.parts ≡ batch.octets_room
     → cleared ≡ cleared_of put → count ≡ length entries → IsJournalKept lane lanes new kept_book cleared batch_room (room - count)
 kept_added lane lanes old new book kept_book entries batch put cleared batch_room room count kept stands added room_is fit of_lane legal parts parts_room octets_room cleared_is count_is =
@@ -163,7 +164,7 @@ kept_added lane lanes old new book kept_book entries batch put cleared batch_roo
     (record {
       some_lanes = kept.some_lanes;
       of_lane = subst (IsHistory lane lanes) (sym added) (longer_history lane lanes old.entries entries kept.of_lane fit of_lane legal);
-      stands = subst (StandsIf kept_book) (sym added) stands;
+      stands = subst (StandsFor kept_book) (sym added) stands;
       empty = refl;
       parts_room = omega (arith, parts_room, long, kept.parts_room);
       octets_room = omega (arith, octets_room, kept.octets_room);

@@ -6,5 +6,5 @@ pub mod HistoryLaws
 pub mod MakingLaws
 pub mod MarkLaws
 pub mod OpeningLaws
-pub mod Turns
+pub mod OpeningCalls
 pub mod ReadLaws

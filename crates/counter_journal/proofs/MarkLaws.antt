@@ -40,14 +40,15 @@ mark_framed = refl
 module _ {D B C : Type 0} (told : Meaning D B C) (old new : D) where
   -- the mark is added
   pub added : (len now : ℕ) (parts : List (List ℕ)) → parts ≡ MARK ∷ [] → now ≡ len + need_of parts → len + need_of parts ≤ 16777216
-      → (Tells told old → IsOpenLog told new now) → (Tells told old → told.seen new ≡ opened_with (told.seen old) (framed parts))
+      → (Tells told old → told.clock new ≡ told.clock old + 4) → (Tells told old → IsOpenLog told new now) → (Tells told old → told.seen new ≡ opened_with (told.seen old) (framed parts))
       → (Tells told old → (head : List ℕ) (before : List (List ℕ)) → parts_of head (told.seen old) ≡ Opened before [] → parts_of head (told.seen new) ≡ Opened (before ++ parts) [])
       → IsGoingOn told old new First len now
-  added len now parts is longer within settled content appended =
+  added len now parts is longer within clock settled content appended =
       let need : need_of parts ≡ 11 = ap need_of is in
       inr (record {
         longer = omega (arith, longer, need);
         within = omega (arith, longer, within);
+        clock = clock;
         open_log = settled;
         content = λ tells. content tells ∙ ap (λ (p : List (List ℕ)). opened_with (told.seen old) (framed p)) is ∙ ap (opened_with (told.seen old)) mark_framed;
         opens = λ tells head before was. appended tells head before was ∙ ap (λ (p : List (List ℕ)). Opened (before ++ p) []) is;

@@ -1,5 +1,5 @@
 -- Laws of an opening.
-use Rattle.std.proofs.Common.{◌≡◌, ◌⊎◌, ℕ, ◌+◌, ◌<◌, ◌≤◌, true, List, [], ◌∷◌, ◌++◌, length, take, Option, Some, None, Result, Ok, Err, refl, inl, inr, sym, ap, subst, ◌∙◌, arith}
+use Rattle.std.proofs.Common.{◌≡◌, ◌⊎◌, ℕ, ◌+◌, ◌-◌, ◌<◌, ◌≤◌, true, List, [], ◌∷◌, ◌++◌, length, take, Option, Some, None, Result, Ok, Err, refl, inl, inr, sym, ap, subst, ◌∙◌, arith}
 use Rattle.std.specs.Prelude.{IfOk, IfErr, OnErr}
 use Rattle.std.proofs.lemmas.List.{length-take}
 use Rattle.disk_model.specs.Disk.{Meaning, Tells, DiskRun, Only, image_now}
@@ -21,7 +21,7 @@ use Rattle.counter_journal.specs.EntryOctets.{MARK}
 use Rattle.counter_journal.specs.EntryRanges.{IsHistory}
 use Rattle.counter_journal.specs.Journal.{journal_head}
 use Rattle.counter_journal.specs.JournalLaws.{written_mark}
-use Rattle.counter_journal.specs.JournalOpening.{IsBeforeOrOpened, MARK_BATCH, IsLeft, IsOpenedTo, IsCutAtMost, IsGoingOn}
+use Rattle.counter_journal.specs.JournalOpening.{IsBeforeOrOpened, MARK_BATCH, IsLeft, IsOpenedTo, IsEndCut, IsLeftRefused, IsFault, IsGoingOn}
 use Rattle.counter_journal.specs.JournalReading.{AreWritten, Holds, ReadsTo, JournalValue, JournalRefuses, IsOpenedOf, OpeningAnswer, IsReady}
 use Rattle.counter_journal.specs.HistoryReading.{IsPast, IsReadSoFar, IsReadThrough, IsReadAs, checked}
 
@@ -49,25 +49,54 @@ still_tells told old new same tells = same ∙ tells
 
 -- ---- a log that was opened and read
 
--- what holds where no fault came, holds where what follows from it is asked for
-pub unless_then : (T U : Type 0) (error : LogErr) (P Q : Type 0) → UnlessFault {T = T} (Err error) P → (P → Q) → UnlessFault {T = U} (Err error) Q
-unless_then T U log_err.Memory P Q unless then_q = then_q unless
-unless_then T U (log_err.DiskFault fault) P Q unless then_q = tt
-unless_then T U log_err.Unformatted P Q unless then_q = then_q unless
-unless_then T U log_err.NotALog P Q unless then_q = then_q unless
-unless_then T U (log_err.OtherHead rest) P Q unless then_q = then_q unless
-unless_then T U (log_err.Damaged number) P Q unless then_q = then_q unless
-unless_then T U (log_err.Full size need) P Q unless then_q = then_q unless
+-- a fault is a want or a fault
+pub fault_wants : (error : LogErr) → IsFault error → IsWantOrFault error
+fault_wants log_err.Memory is = absurd is
+fault_wants (log_err.DiskFault fault) is = tt
+fault_wants log_err.Unformatted is = absurd is
+fault_wants log_err.NotALog is = absurd is
+fault_wants (log_err.OtherHead rest) is = absurd is
+fault_wants (log_err.Damaged number) is = absurd is
+fault_wants (log_err.Full size need) is = absurd is
 
--- want of memory
-pub unless_wanting : (T : Type 0) (error : LogErr) (Q : Type 0) → IsWantOrFault error → (error ≡ log_err.Memory → Q) → UnlessFault {T = T} (Err error) Q
-unless_wanting T log_err.Memory Q want then_q = then_q refl
-unless_wanting T (log_err.DiskFault fault) Q want then_q = tt
-unless_wanting T log_err.Unformatted Q want then_q = absurd want
-unless_wanting T log_err.NotALog Q want then_q = absurd want
-unless_wanting T (log_err.OtherHead rest) Q want then_q = absurd want
-unless_wanting T (log_err.Damaged number) Q want then_q = absurd want
-unless_wanting T (log_err.Full size need) Q want then_q = absurd want
+-- a refusal of the beginning leaves all octets
+pub begun_left : (T : Type 0) (head old new : List ℕ) (error : LogErr) → UnlessFault {T = T} (Err error) (new ≡ old) → IsNotDamaged error → IsLeftRefused head old new error
+begun_left T head old new log_err.Memory same not_damaged = same
+begun_left T head old new (log_err.DiskFault fault) same not_damaged = tt
+begun_left T head old new log_err.Unformatted same not_damaged = same
+begun_left T head old new log_err.NotALog same not_damaged = same
+begun_left T head old new (log_err.OtherHead rest) same not_damaged = same
+begun_left T head old new (log_err.Damaged number) same not_damaged = absurd not_damaged
+begun_left T head old new (log_err.Full size need) same not_damaged = same
+
+-- and so does want of memory
+pub wanting_left : (T : Type 0) (head begun old new : List ℕ) (error : LogErr) → UnlessFault {T = T} (Err error) (new ≡ begun) → begun ≡ old → IsWantOrFault error → IsLeftRefused head old new error
+wanting_left T head begun old new log_err.Memory same still want = same ∙ still
+wanting_left T head begun old new (log_err.DiskFault fault) same still want = tt
+wanting_left T head begun old new log_err.Unformatted same still want = absurd want
+wanting_left T head begun old new log_err.NotALog same still want = absurd want
+wanting_left T head begun old new (log_err.OtherHead rest) same still want = absurd want
+wanting_left T head begun old new (log_err.Damaged number) same still want = absurd want
+wanting_left T head begun old new (log_err.Full size need) same still want = absurd want
+
+pub fault_left : (head old new : List ℕ) (error : LogErr) → IsFault error → IsLeftRefused head old new error
+fault_left head old new log_err.Memory is = absurd is
+fault_left head old new (log_err.DiskFault fault) is = tt
+fault_left head old new log_err.Unformatted is = absurd is
+fault_left head old new log_err.NotALog is = absurd is
+fault_left head old new (log_err.OtherHead rest) is = absurd is
+fault_left head old new (log_err.Damaged number) is = absurd is
+fault_left head old new (log_err.Full size need) is = absurd is
+
+-- what holds where no fault came
+pub unless_wanting : (T U : Type 0) (error : LogErr) (P Q : Type 0) → UnlessFault {T = T} (Err error) P → (P → Q) → UnlessFault {T = U} (Err error) Q
+unless_wanting T U log_err.Memory P Q unless then_q = then_q unless
+unless_wanting T U (log_err.DiskFault fault) P Q unless then_q = tt
+unless_wanting T U log_err.Unformatted P Q unless then_q = then_q unless
+unless_wanting T U log_err.NotALog P Q unless then_q = then_q unless
+unless_wanting T U (log_err.OtherHead rest) P Q unless then_q = then_q unless
+unless_wanting T U (log_err.Damaged number) P Q unless then_q = then_q unless
+unless_wanting T U (log_err.Full size need) P Q unless then_q = then_q unless
 
 -- it says nothing of the octets
 pub wanting_refuses : (lane lanes : ℕ) (read : Reading) (error : LogErr) → IsWantOrFault error → JournalRefuses lane lanes read error
@@ -157,7 +186,7 @@ module _ {D B C : Type 0} (told : Meaning D B C) where
           is = marked;
         }))
 
-    module _ (journal : JournalValue) (is : journal ≡ record { lane = lane; lanes = lanes; entries = past.history.entries; length = journal.length; room = 0 }) where
+    module _ (journal : JournalValue) (is : journal ≡ record { lane = lane; lanes = lanes; entries = past.history.entries; length = journal.length; room = 0; book = past.book }) where
       pub opened_of : IsOpenedOf lane lanes (told.seen old) journal
       opened_of = record {
         lane_is = ap (λ (j : JournalValue). j.lane) is;
@@ -172,7 +201,7 @@ module _ {D B C : Type 0} (told : Meaning D B C) where
 
       module _ (tells : Tells told mid) where
         abbrev made : JournalValue
-        made = record { lane = lane; lanes = lanes; entries = past.history.entries; length = journal.length; room = 0 }
+        made = record { lane = lane; lanes = lanes; entries = past.history.entries; length = journal.length; room = 0; book = past.book }
 
         ready_of : (version : Version) → AreWritten version past.history.entries read.parts → IsGoingOn told mid new version len journal.length → IsReady told new made
         ready_of First written (inl (full, stays, same)) = record {
@@ -222,15 +251,26 @@ module _ {D B C : Type 0} (told : Meaning D B C) where
 
     -- what the journal of the log is, where there was no want of memory and no fault
     abbrev pub IsMadeOf : JournalValue → Type 0
-    IsMadeOf journal = (journal ≡ record { lane = lane; lanes = lanes; entries = past.history.entries; length = journal.length; room = 0 }) × IsGoingOn told mid new past.version len journal.length
+    IsMadeOf journal = (journal ≡ record { lane = lane; lanes = lanes; entries = past.history.entries; length = journal.length; room = 0; book = past.book }) × IsGoingOn told mid new past.version len journal.length
 
-    pub answered : (result : Result JournalValue LogErr) → IfOk result IsMadeOf → IfErr result IsWantOrFault → OpeningAnswer lane lanes (told.seen old) result
+    pub answered : (result : Result JournalValue LogErr) → IfOk result IsMadeOf → IfErr result IsFault → OpeningAnswer lane lanes (told.seen old) result
     answered (Ok journal) is_made want = opened_of journal is_made.0
-    answered (Err error) is_made want = wanting_refuses lane lanes (parts_of (journal_head lane lanes) (told.seen old)) error want
+    answered (Err error) is_made want = wanting_refuses lane lanes (parts_of (journal_head lane lanes) (told.seen old)) error (fault_wants error want)
 
     pub readied : (result : Result JournalValue LogErr) → Tells told mid → IfOk result IsMadeOf → IfOk result (IsReady told new)
     readied (Ok journal) tells is_made = opened_ready journal is_made.0 tells is_made.1
     readied (Err error) tells is_made = tt
+
+    -- a stop leaves just what a read gives, unless a fault came
+    pub settled_after : (result : Result JournalValue LogErr) → Tells told mid → IfOk result IsMadeOf → IfErr result IsFault → UnlessFault result (Only (told.seen new) (image_now told new))
+    settled_after (Ok journal) tells is_made is = (opened_ready journal is_made.0 tells is_made.1).open_log.only
+    settled_after (Err log_err.Memory) tells is_made is = absurd is
+    settled_after (Err (log_err.DiskFault fault)) tells is_made is = tt
+    settled_after (Err log_err.Unformatted) tells is_made is = absurd is
+    settled_after (Err log_err.NotALog) tells is_made is = absurd is
+    settled_after (Err (log_err.OtherHead rest)) tells is_made is = absurd is
+    settled_after (Err (log_err.Damaged number)) tells is_made is = absurd is
+    settled_after (Err (log_err.Full size need)) tells is_made is = absurd is
 
     pub lefted : (result : Result JournalValue LogErr) → Tells told mid → IfOk result IsMadeOf → IfOk result (IsOpenedTo (told.seen old) (told.seen new))
     lefted (Ok journal) tells is_made = opened_to journal is_made.0 tells is_made.1
@@ -279,22 +319,48 @@ module _ (lane lanes : ℕ) (said old new : List ℕ) (is : said ≡ journal_hea
   ended (Err (log_err.Damaged number)) (Some first) finish read = inl (parts, all, read)
   ended (Err (log_err.Full size need)) wrong finish read = absurd finish
 
+  cut_as : (len : ℕ) → IsOpenedWith (journal_head lane lanes) old new parts len → IsEndCut (parts_of (journal_head lane lanes) old) old new
+  cut_as len at =
+      let is : len ≡ length old - length at.behind = omega (arith, at.long) in
+      subst (λ (r : Reading). IsEndCut r old new) (sym at.was) (at.cut ∙ ap (λ (n : ℕ). take n old) is)
+
+  damaged_as : parts_of said old ≡ Damaged parts → new ≡ old → IsEndCut (parts_of (journal_head lane lanes) old) old new
+  damaged_as damaged same =
+      subst (λ (r : Reading). IsEndCut r old new) (sym (subst (λ (h : List ℕ). parts_of h old ≡ Damaged parts) is damaged)) same
+
   -- what it leaves where it refuses
   pub ended_cut : (finished : Result ℕ LogErr) (wrong : Option ℕ) → FinishAnswer said old new parts finished → OnErr finished (UnlessFault finished (new ≡ old))
-      → OnErr (checked finished wrong) (UnlessFault (checked finished wrong) (IsCutAtMost (journal_head lane lanes) old new))
+      → IfErr (checked finished wrong) (IsLeftRefused (journal_head lane lanes) old new)
   ended_cut (Ok len) None finish same = tt
-  ended_cut (Ok len) (Some number) finish same =
-      let at = subst (λ (h : List ℕ). IsOpenedWith h old new parts len) is finish in
-      inr (len, record { parts = parts; behind = at.behind; was = at.was; is = at.is; cut = at.cut; long = at.long })
+  ended_cut (Ok len) (Some number) finish same = cut_as len (subst (λ (h : List ℕ). IsOpenedWith h old new parts len) is finish)
   ended_cut (Err log_err.Memory) wrong finish same = absurd finish
   ended_cut (Err (log_err.DiskFault fault)) None finish same = tt
   ended_cut (Err (log_err.DiskFault fault)) (Some number) finish same = tt
   ended_cut (Err log_err.Unformatted) wrong finish same = absurd finish
   ended_cut (Err log_err.NotALog) wrong finish same = absurd finish
   ended_cut (Err (log_err.OtherHead rest)) wrong finish same = absurd finish
-  ended_cut (Err (log_err.Damaged number)) None finish same = inl same
-  ended_cut (Err (log_err.Damaged number)) (Some first) finish same = inl same
+  ended_cut (Err (log_err.Damaged number)) None finish same = damaged_as finish.0 same
+  ended_cut (Err (log_err.Damaged number)) (Some first) finish same = damaged_as finish.0 same
   ended_cut (Err (log_err.Full size need)) wrong finish same = absurd finish
+
+-- a check of the parts says nothing of the disk
+pub checked_unless : (finished : Result ℕ LogErr) (wrong : Option ℕ) (P : Type 0) → UnlessFault finished P → UnlessFault (checked finished wrong) P
+checked_unless (Ok len) None P unless = unless
+checked_unless (Ok len) (Some number) P unless = unless
+checked_unless (Err log_err.Memory) None P unless = unless
+checked_unless (Err log_err.Memory) (Some number) P unless = unless
+checked_unless (Err (log_err.DiskFault fault)) None P unless = tt
+checked_unless (Err (log_err.DiskFault fault)) (Some number) P unless = tt
+checked_unless (Err log_err.Unformatted) None P unless = unless
+checked_unless (Err log_err.Unformatted) (Some number) P unless = unless
+checked_unless (Err log_err.NotALog) None P unless = unless
+checked_unless (Err log_err.NotALog) (Some number) P unless = unless
+checked_unless (Err (log_err.OtherHead rest)) None P unless = unless
+checked_unless (Err (log_err.OtherHead rest)) (Some number) P unless = unless
+checked_unless (Err (log_err.Damaged number)) None P unless = unless
+checked_unless (Err (log_err.Damaged number)) (Some first) P unless = unless
+checked_unless (Err (log_err.Full size need)) None P unless = unless
+checked_unless (Err (log_err.Full size need)) (Some number) P unless = unless
 
 -- an end that is Ok was one of the log
 pub checked_ok : (finished : Result ℕ LogErr) (wrong : Option ℕ) (len : ℕ) → checked finished wrong ≡ Ok len → finished ≡ Ok len
@@ -336,12 +402,10 @@ module _ {D B C : Type 0} (told : Meaning D B C) (mid old new : D) (lane lanes :
       subst (IsEnded lane lanes said (told.seen old) (told.seen new) is all.parts read.past all.all) (sym is_checked)
       (ended lane lanes said (told.seen old) (told.seen new) is all.parts read.past all.all finished read.wrong all.finish all.so_far)
 
-  abbrev pub IsCutBy : Result ℕ LogErr → Type 0
-  IsCutBy result = OnErr result (UnlessFault result (IsCutAtMost (journal_head lane lanes) (told.seen old) (told.seen new)))
-
-  pub finished_cut : (result : Result ℕ LogErr) → result ≡ checked finished read.wrong → OnErr finished (UnlessFault finished (told.seen new ≡ told.seen mid)) → told.seen mid ≡ told.seen old → IsCutBy result
+  pub finished_cut : (result : Result ℕ LogErr) → result ≡ checked finished read.wrong → OnErr finished (UnlessFault finished (told.seen new ≡ told.seen mid)) → told.seen mid ≡ told.seen old
+      → IfErr result (IsLeftRefused (journal_head lane lanes) (told.seen old) (told.seen new))
   finished_cut result is_checked same still =
-      subst IsCutBy (sym is_checked)
+      subst (λ (r : Result ℕ LogErr). IfErr r (IsLeftRefused (journal_head lane lanes) (told.seen old) (told.seen new))) (sym is_checked)
       (ended_cut lane lanes said (told.seen old) (told.seen new) is all.parts read.past all.all finished read.wrong all.finish
       (subst (λ (t : List ℕ). OnErr finished (UnlessFault finished (told.seen new ≡ t))) still same))
 
@@ -350,15 +414,3 @@ module _ {D B C : Type 0} (told : Meaning D B C) (mid old new : D) (lane lanes :
       let ok : finished ≡ Ok len = checked_ok finished read.wrong len is_ok in
       settled_log told old new said all.parts len (subst (FinishAnswer said (told.seen old) (told.seen new) all.parts) ok all.finish)
       (subst (λ (r : Result ℕ LogErr). UnlessFault r (Only (told.seen new) (image_now told new))) ok only)
-
--- where memory was wanting for the journal of a log, what lay behind the gate was cut off
-pub wanting_cut : {D B C T : Type 0} (told : Meaning D B C) (old mid new : D) (lane lanes len : ℕ) (past : Past) (result : Result T LogErr) → IsReadAs lane lanes (told.seen old) (told.seen mid) len past
-    → IfErr result IsWantOrFault → (result ≡ Err log_err.Memory → new ≡ mid) → OnErr result (UnlessFault result (IsCutAtMost (journal_head lane lanes) (told.seen old) (told.seen new)))
-wanting_cut told old mid new lane lanes len past (Ok value) read want stays = tt
-wanting_cut {T = T} told old mid new lane lanes len past (Err error) read want stays =
-    unless_wanting T error (IsCutAtMost (journal_head lane lanes) (told.seen old) (told.seen new)) want
-    (λ is. inr (
-      len,
-      subst (λ d. IsOpened (journal_head lane lanes) (told.seen old) (told.seen d) len) (sym (stays (ap Err is)))
-          (record { parts = read.parts; behind = read.was.0; was = read.was.1; is = read.is; cut = read.cut; long = read.long }),
-    ))

@@ -1,12 +1,12 @@
 -- What an opening makes of a disk: octets behind the gate are cut off, and a journal of version 1 gets the mark of version 2.
-use Rattle.std.specs.Prelude.{◌≡◌, ◌⊎◌, ℕ, ◌+◌, ◌<◌, ◌≤◌, Bool, true, false, List, [], ◌∷◌, ◌++◌, take, Result, Ok, Err}
+use Rattle.std.specs.Prelude.{◌≡◌, ◌⊎◌, ℕ, ◌+◌, ◌-◌, ◌<◌, ◌≤◌, Bool, true, false, List, [], ◌∷◌, ◌++◌, length, take}
 use Rattle.disk_model.specs.Disk.{Meaning, Tells, image_now}
 use Rattle.gate_log.specs.declared.log_errors.LogErr.{LogErr}
 use Rattle.gate_log.specs.declared.log_errors.LogErr.TheVariants as log_err
 use Rattle.gate_log.specs.Append.{opened_with}
-use Rattle.gate_log.specs.Reading.{parts_of, OpensTo}
+use Rattle.gate_log.specs.Reading.{Reading, parts_of, OpensTo}
 use Rattle.gate_log.specs.Reading.Reading.{Opened}
-use Rattle.gate_log.specs.Opening.{OpensAlike, IsOpened, IsOpenLog, LIMIT}
+use Rattle.gate_log.specs.Opening.{OpensAlike, IsOpenLog, LIMIT}
 use Rattle.ota_core.specs.declared.entries.Entry.{Entry}
 use Rattle.counter_journal.specs.declared.versions.Version.{Version}
 use Rattle.counter_journal.specs.declared.versions.Version.TheVariants.{First, Second}
@@ -50,14 +50,23 @@ pub record IsOpenedTo (old new : List ℕ) (journal : JournalValue) : Type 0 whe
   pub opens : OpensTo (journal_head journal.lane journal.lanes) parts old
   pub left : IsLeft version old new journal.length
 
--- a refusal leaves all octets, or cuts off those behind the gate that ends the log
-abbrev pub IsCutAtMost : List ℕ → List ℕ → List ℕ → Type 0
-IsCutAtMost head old new = (new ≡ old) ⊎ ((len : ℕ) × IsOpened head old new len)
+-- What lies behind the gate that ends a log is cut off. Octets of which a batch is damaged stay.
+abbrev pub IsEndCut : Reading → List ℕ → List ℕ → Type 0
+IsEndCut (Opened parts behind) old new = new ≡ take (length old - length behind) old
+IsEndCut read old new = new ≡ old
+
+-- What a refusal leaves: where an entry is wrong, the octets up to the gate that ends the log, and else all of them. After
+-- a fault of the disk its moments say it.
+abbrev pub IsLeftRefused : List ℕ → List ℕ → List ℕ → LogErr → Type 0
+IsLeftRefused head old new (log_err.DiskFault fault) = Unit {0}
+IsLeftRefused head old new (log_err.Damaged number) = IsEndCut (parts_of head old) old new
+IsLeftRefused head old new error = new ≡ old
 
 -- A log goes on in version 2. Where its parts are of version 1 the mark is added, unless there is no room for it.
 pub record IsMarkAdded {D B C : Type 0} (told : Meaning D B C) (old new : D) (len now : ℕ) : Type 0 where
   pub longer : now ≡ len + MARK_NEED
   pub within : now ≤ LIMIT
+  pub clock : Tells told old → told.clock new ≡ told.clock old + 4
   pub open_log : Tells told old → IsOpenLog told new now
   pub content : Tells told old → told.seen new ≡ opened_with (told.seen old) MARK_BATCH
   pub opens : Tells told old → (head : List ℕ) (parts : List (List ℕ)) → parts_of head (told.seen old) ≡ Opened parts []

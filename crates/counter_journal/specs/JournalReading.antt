@@ -9,6 +9,8 @@ use Rattle.gate_log.specs.Answers.{Refuses}
 use Rattle.gate_log.specs.Opening.{IsOpenLog, LIMIT}
 use Rattle.ota_core.specs.History.{broken}
 use Rattle.ota_core.specs.declared.entries.Entry.{Entry}
+use Rattle.keyset_book.specs.Book.{HasRoom}
+use Rattle.keyset_book.specs.declared.books.Book.{Book}
 use Rattle.counter_journal.specs.declared.versions.Version.{Version}
 use Rattle.counter_journal.specs.declared.versions.Version.TheVariants.{First, Second}
 use Rattle.counter_journal.specs.EntryOctets.{entry_octets, MARK, IsOfVersion}
@@ -43,14 +45,19 @@ pub record Holds (lane lanes : ℕ) (entries : List Entry) (octets : List ℕ) :
   pub written : AreWritten version entries parts
   pub opens : OpensTo (journal_head lane lanes) parts octets
 
--- what contracts see of a journal: its lane and the number of lanes, its entries, the length of its log in octets, and
--- for how many more entries it has room
+-- what contracts see of a journal: its lane and the number of lanes, its entries, the length of its log in octets, for
+-- how many more entries it has room, and the book of its entries
 pub record JournalValue : Type 0 where
   pub lane : ℕ
   pub lanes : ℕ
   pub entries : List Entry
   pub length : ℕ
   pub room : ℕ
+  pub book : Book
+
+-- the journal has room for these entries, and its book the places that they fill
+abbrev pub IsRoomy : JournalValue → List Entry → Type 0
+IsRoomy journal entries = (length entries ≤ journal.room) × HasRoom journal.book entries
 
 -- the part is the mark where none stands before it
 abbrev pub IsFirstMark : Version → List ℕ → Type 0
@@ -131,7 +138,7 @@ pub record IsReady {D B C : Type 0} (told : Meaning D B C) (disk : D) (journal :
   pub opens : parts_of (journal_head journal.lane journal.lanes) (told.seen disk) ≡ Opened parts []
   pub goes_on : GoesOn version journal.length
 
--- only the room of the journal is another
+-- only the room of the journal is another, and the places of its book
 pub record IsSameJournal (old new : JournalValue) : Type 0 where
   pub lane : new.lane ≡ old.lane
   pub lanes : new.lanes ≡ old.lanes
@@ -140,12 +147,12 @@ pub record IsSameJournal (old new : JournalValue) : Type 0 where
 
 -- an addition was refused for want of memory only where there was no room for it, and for want of room in the log
 -- exactly by these two numbers
-abbrev pub AddAnswer : JournalValue → ℕ → ℕ → Result (Unit {0}) LogErr → Type 0
-AddAnswer journal count need (Ok done) = journal.length + need ≤ LIMIT
-AddAnswer journal count need (Err log_err.Memory) = journal.room < count
-AddAnswer journal count need (Err (log_err.DiskFault fault)) = journal.length + need ≤ LIMIT
-AddAnswer journal count need (Err (log_err.Full at needed)) = (LIMIT < journal.length + need) × (at ≡ journal.length) × (needed ≡ need)
-AddAnswer journal count need (Err other) = ⊥
+abbrev pub AddAnswer : JournalValue → List Entry → ℕ → Result (Unit {0}) LogErr → Type 0
+AddAnswer journal entries need (Ok done) = journal.length + need ≤ LIMIT
+AddAnswer journal entries need (Err log_err.Memory) = ¬ IsRoomy journal entries
+AddAnswer journal entries need (Err (log_err.DiskFault fault)) = journal.length + need ≤ LIMIT
+AddAnswer journal entries need (Err (log_err.Full at needed)) = (LIMIT < journal.length + need) × (at ≡ journal.length) × (needed ≡ need)
+AddAnswer journal entries need (Err other) = ⊥
 
 -- memory was there for the octets of the entries
 abbrev pub UnlessWanting : Result (Unit {0}) LogErr → Type 0 → Type 0

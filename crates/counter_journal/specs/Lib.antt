@@ -4,6 +4,7 @@ pub mod EntryReading
 pub mod Journal
 pub mod JournalReading
 pub mod JournalOpening
+pub mod JournalCalls
 pub mod JournalKept
 pub mod JournalMaking
 pub mod HistoryReading

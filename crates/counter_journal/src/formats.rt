@@ -3,7 +3,7 @@
 ghost use Rattle.std.specs.Prelude.{◌≡◌, ◌<◌, IfErr, OnOk};
 ghost use Rattle.disk_model.specs.Disk.{Tells, image_now, DiskRun, Only};
 ghost use Rattle.gate_log.specs.Answers.{LogCause, UnlessFault};
-ghost use Rattle.gate_log.specs.Formatting.{FormatAnswer, IsFormatErr};
+ghost use Rattle.gate_log.specs.Formatting.{FormatAnswer, IsFormatErr, FormatTicks};
 ghost use Rattle.counter_journal.specs.Journal.{journal_head};
 ghost use Rattle.counter_journal.specs.JournalMaking.{IsJournalMade, IsBeforeOrNewJournal};
 
@@ -23,6 +23,7 @@ pub fn format<D: DiskCalls>(disk: &mut D, lane: u16, lanes: u16) -> Result<(), L
     ensures made { Tells D.told disk.old → OnOk result (IsJournalMade lane lanes (D.told.seen disk.old) (D.told.seen disk.new)) }
     ensures durable { Tells D.told disk.old → UnlessFault result (Only (D.told.seen disk.new) (image_now D.told disk.new)) }
     ensures moments { Tells D.told disk.old → DiskRun D.told disk.old disk.new (IsBeforeOrNewJournal D.told disk.old lane lanes) }
+    ensures clock { Tells D.told disk.old → FormatTicks (journal_head lane lanes) (D.told.seen disk.old) (D.told.clock disk.old) (D.told.clock disk.new) result }
     ensures tells { D.told.tells disk.new ≡ D.told.tells disk.old }
     ensures cause { LogCause (D.counts disk.old) (D.counts disk.new) result }
     ensures err { IfErr result IsFormatErr }

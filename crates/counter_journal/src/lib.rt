@@ -9,7 +9,6 @@ mod formats;
 mod heads;
 mod histories_read;
 mod journals;
-mod kept_books;
 mod laws;
 mod marks;
 mod openings;

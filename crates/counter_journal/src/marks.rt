@@ -1,6 +1,6 @@
 //! How a journal of the first version is taken over.
 
-ghost use Rattle.std.specs.Prelude.{◌≡◌, ◌⊎◌, ◌≤◌, [], ◌∷◌, ◌++◌, ℕ, List, IfOk, IfErr};
+ghost use Rattle.std.specs.Prelude.{◌≡◌, ◌⊎◌, ◌+◌, ◌≤◌, [], ◌∷◌, ◌++◌, ℕ, List, IfOk, IfErr};
 ghost use Rattle.disk_model.specs.Disk.{Tells, DiskRun};
 ghost use Rattle.gate_log.specs.Reading.{parts_of, OpensTo};
 ghost use Rattle.gate_log.specs.Reading.Reading.{Opened};
@@ -32,6 +32,7 @@ pub fn go_on<D: DiskCalls>(
     ensures moments { Tells D.told disk.old → (head : List ℕ) (parts : List (List ℕ)) → parts_of head (D.told.seen disk.old) ≡ Opened parts []
         → DiskRun D.told disk.old disk.new (λ image. OpensTo head parts image ⊎ ((version ≡ First) × OpensTo head (parts ++ MARK ∷ []) image)) }
     ensures batch { batch.new ≡ batch.old }
+    ensures clock { Tells D.told disk.old → IfErr result (λ error. (D.told.clock disk.old ≤ D.told.clock disk.new) × (D.told.clock disk.new ≤ D.told.clock disk.old + 4)) }
     ensures tells { D.told.tells disk.new ≡ D.told.tells disk.old }
     ensures cause { LogCause (D.counts disk.old) (D.counts disk.new) result }
     ensures err { IfErr result IsFault }
@@ -52,6 +53,7 @@ fn add_mark<D: DiskCalls>(disk: &mut D, log: Log, batch: &mut Batch) -> Result<L
     ensures moments { Tells D.told disk.old → (head : List ℕ) (parts : List (List ℕ)) → parts_of head (D.told.seen disk.old) ≡ Opened parts []
         → DiskRun D.told disk.old disk.new (λ image. OpensTo head parts image ⊎ OpensTo head (parts ++ MARK ∷ []) image) }
     ensures batch { batch.new ≡ batch.old }
+    ensures clock { Tells D.told disk.old → IfErr result (λ error. (D.told.clock disk.old ≤ D.told.clock disk.new) × (D.told.clock disk.new ≤ D.told.clock disk.old + 4)) }
     ensures tells { D.told.tells disk.new ≡ D.told.tells disk.old }
     ensures cause { LogCause (D.counts disk.old) (D.counts disk.new) result }
     ensures err { IfErr result IsFault }

@@ -1,29 +1,33 @@
 //! How the log of a journal is opened and read, part by part.
 
 ghost use Rattle.std.specs.Prelude.{◌≡◌, ℕ, ◌+◌, ◌<◌, List, [], ◌∷◌, ◌++◌, length, true, IfOk, IfErr, OnOk, OnErr};
-ghost use Rattle.disk_model.specs.Disk.{Tells, image_now, DiskRun};
+ghost use Rattle.disk_model.specs.Disk.{Tells, image_now, DiskRun, Only};
 ghost use Rattle.gate_log.specs.Answers.{LogCause, UnlessFault, IsNotFull, IsWantOrFault};
 ghost use Rattle.gate_log.specs.Opening.{IsOpenLog};
 ghost use Rattle.gate_log.specs.Reading.{parts_of};
-ghost use Rattle.gate_log.specs.Readers.{has_ended, IsReading};
+ghost use Rattle.gate_log.specs.Readers.{has_ended, IsReading, ReadOnTicks};
+ghost use Rattle.gate_log.specs.Windows.{IsWithin};
 ghost use Rattle.keyset_book.specs.Book.{StandsFor};
-ghost use Rattle.counter_journal.specs.EntryRanges.{IsHistory};
+ghost use Rattle.counter_journal.specs.EntryRanges.{IsHistory, LONGEST_ENTRY};
 ghost use Rattle.counter_journal.specs.HistoryReading.{IsKeptPast, IsReadSoFar, IsReadThrough, PastAnswer, first_wrong, checked};
 ghost use Rattle.counter_journal.specs.Journal.{journal_head};
-ghost use Rattle.counter_journal.specs.JournalOpening.{IsBeforeOrOpened, IsCutAtMost};
+ghost use Rattle.counter_journal.specs.JournalOpening.{IsBeforeOrOpened, IsLeftRefused};
+ghost use Rattle.counter_journal.specs.JournalCalls.{OpenedTicks};
 
+use crate::batches::room_for;
 use crate::heads::head_of;
 use crate::histories_read::{Past, no_past};
 use disk_model::DiskCalls;
-use gate_log::{Log, LogErr, LogReader};
+use gate_log::{Batch, Log, LogErr, LogReader};
 use ota_core::Memory;
 use std::alloc::Global;
 
-/// A journal's log that was opened, and what was read of it.
+/// A journal's log that was opened, what was read of it, and a batch for one entry.
 #[derive(Drop)]
 pub struct OpenedLog {
     pub log: Log,
     pub past: Past,
+    pub batch: Batch,
 }
 
 /// What was read of a log, and the number of the first part that is bad.
@@ -36,7 +40,7 @@ pub struct LogRead {
 /// Opens the log of the journal of this lane, and reads its history: each octet once.
 ///
 /// A part that is wrong ahead of a damaged batch comes first. What lies behind the closed gate is cut off, also where a
-/// part is then wrong.
+/// part is then wrong. Memory is taken before that, also for the first batch.
 pub fn open_log<D: DiskCalls>(
     alloc: Global,
     disk: &mut D,
@@ -46,20 +50,25 @@ pub fn open_log<D: DiskCalls>(
     requires { 0 < lanes }
     ensures answer { Tells D.told disk.old → PastAnswer lane lanes (D.told.seen disk.old) (D.told.seen disk.new) result }
     ensures settled { Tells D.told disk.old → IfOk result (λ opened. IsOpenLog D.told disk.new opened.log) }
-    ensures refused { Tells D.told disk.old → OnErr result (UnlessFault result (IsCutAtMost (journal_head lane lanes) (D.told.seen disk.old) (D.told.seen disk.new))) }
+    ensures refused { Tells D.told disk.old → IfErr result (IsLeftRefused (journal_head lane lanes) (D.told.seen disk.old) (D.told.seen disk.new)) }
+    ensures durable { Tells D.told disk.old → UnlessFault result (Only (D.told.seen disk.new) (image_now D.told disk.new)) }
     ensures moments { Tells D.told disk.old → DiskRun D.told disk.old disk.new (IsBeforeOrOpened D.told disk.old lane lanes) }
     ensures kept { IfOk result (λ opened. IsKeptPast lane lanes opened.past) }
+    ensures batch { IfOk result (λ opened. opened.batch ≡ record { parts = []; parts_room = 1; octets_room = LONGEST_ENTRY }) }
+    ensures clock { Tells D.told disk.old → OpenedTicks (parts_of (journal_head lane lanes) (D.told.seen disk.old)) (length (D.told.seen disk.old)) (D.told.clock disk.old) (D.told.clock disk.new) result }
     ensures tells { D.told.tells disk.new ≡ D.told.tells disk.old }
     ensures cause { LogCause (D.counts disk.old) (D.counts disk.new) result }
     ensures not_full { IfErr result IsNotFull }
 {
     let mut reader = LogReader::begin(alloc, disk, head_of(lane, lanes))?;
+    let batch = room_for(alloc, 1)?;
     let read = read_past(alloc, &mut reader, disk, lane, lanes)?;
     let finished = reader.finish(disk);
     let log = checked(finished, read.wrong)?;
     Ok(OpenedLog {
         log,
         past: read.past,
+        batch,
     })
 }
 
@@ -102,6 +111,9 @@ fn read_past<D: DiskCalls>(
         → IfOk result (IsReadThrough head (D.told.seen disk.old) lane lanes reader.new) }
     ensures kept { IfOk result (λ read. IsKeptPast lane lanes read.past) }
     ensures ended { OnOk result (has_ended reader.new ≡ true) }
+    ensures clock { Tells D.told disk.old → (head : List ℕ) → IsReading head (D.told.seen disk.old) [] reader.old
+        → ReadOnTicks (D.told.clock disk.old) (D.told.clock disk.new) reader.old reader.new result }
+    ensures within { IsWithin reader.new.windows }
     ensures content { Tells D.told disk.old → UnlessFault result (D.told.seen disk.new ≡ D.told.seen disk.old) }
     ensures moments { Tells D.told disk.old → DiskRun D.told disk.old disk.new (image_now D.told disk.old) }
     ensures tells { D.told.tells disk.new ≡ D.told.tells disk.old }

@@ -829,8 +829,7 @@ fn large_journal_opens(rt: HostRuntime) -> Result<(), Fail> {
     let opened = Journal::open(alloc, &mut disk, 0, 1);
     let journal = opened.ok().ok_or("these are the octets of a journal")?;
     assert_eq!(rt; journal.length(), 4_000_086);
-    let kept = journal.book().ok_or("an opening makes the book")?;
-    assert!(rt; has_each(kept));
+    assert!(rt; has_each(journal.book()));
     let made = Book::from_history(alloc, journal.history())?;
     assert!(rt; has_each(&made));
     Ok(())
@@ -862,11 +861,7 @@ fn opening_reads_windows(rt: HostRuntime) -> Result<(), Fail> {
 }
 
 /// Opens the journal of lane 0 of 1, adds an entry that may follow, and asks the book what has become of the job 1.
-fn looked_after<D: DiskCalls>(
-    alloc: Global,
-    disk: &mut D,
-    entry: Entry,
-) -> Result<Option<Looked>, LogErr>
+fn looked_after<D: DiskCalls>(alloc: Global, disk: &mut D, entry: Entry) -> Result<Looked, LogErr>
     requires sized { IsSized entry }
     requires of_lane { IsOfLane 0 1 entry }
 {
@@ -875,15 +870,13 @@ fn looked_after<D: DiskCalls>(
         return Err(LogErr::Damaged(0));
     }
     let entries = vec![in alloc; entry]?;
+    journal.make_room_for(&entries)?;
     journal.add(disk, entries)?;
     let job = JobId {
         campaign: 7,
         job: 1,
     };
-    match journal.book() {
-        None => Ok(None),
-        Some(book) => Ok(Some(book.look(job))),
-    }
+    Ok(journal.book().look(job))
 }
 
 #[test]
@@ -892,8 +885,124 @@ fn the_book_goes_with_the_history(rt: HostRuntime) -> Result<(), Fail> {
     let first = Counter(1);
     let mut disk = MemDisk::of(alloc, &journal(alloc, 0, 1, &[OPEN])?)?;
     let unsettled = looked_after(alloc, &mut disk, reserved(alloc, 1)?);
-    assert!(rt; unsettled == Ok(Some(Looked::Unsettled(keyset(), first))));
+    assert!(rt; unsettled == Ok(Looked::Unsettled(keyset(), first)));
     let answered = looked_after(alloc, &mut disk, done(alloc)?);
-    assert!(rt; answered == Ok(Some(Looked::Done(keyset(), first))));
+    assert!(rt; answered == Ok(Looked::Done(keyset(), first)));
+    Ok(())
+}
+
+/// Adds a reservation of this counter in version 1, with a script of so many octets.
+fn add_reservation(octets: &mut Vec<u8>, number: u32, script: u32) -> Result<(), Fail> {
+    let part = script.wrapping_add(30);
+    octets.push(0xA5)?;
+    octets.extend_from_slice(&part.wrapping_add(4).to_be_bytes())?;
+    octets.extend_from_slice(&part.to_be_bytes())?;
+    octets.extend_from_slice(&RESERVE[..15])?;
+    octets.extend_from_slice(&number.to_be_bytes())?;
+    octets.extend_from_slice(&[0x00, 0x00, 0x00, 0x07])?;
+    octets.extend_from_slice(&number.to_be_bytes())?;
+    octets.extend_from_slice(&[0xB0, 0x00, 0x10])?;
+    for _ in 0..script {
+        octets.push(0)?;
+    }
+    Ok(())
+}
+
+/// A journal of version 1 with an Open, 4,057 reservations of the longest scripts, and one of a script of so many octets.
+/// It has 16,775,809 octets more than that script.
+fn filled(alloc: Global, script: u32) -> Result<Vec<u8>, Fail> {
+    let mut octets = journal(alloc, 0, 1, &[OPEN])?;
+    let _ = octets.pop();
+    for before in 0..4_057u32 {
+        add_reservation(&mut octets, before + 1, 4_096)?;
+    }
+    add_reservation(&mut octets, 4_058, script)?;
+    octets.push(0x00)?;
+    Ok(octets)
+}
+
+/// What the addition of a Close to the journal on this disk answers.
+fn closing<D: DiskCalls>(alloc: Global, disk: &mut D) -> Result<u64, LogErr> {
+    added(alloc, disk, closed())
+}
+
+#[test]
+fn a_journal_without_room_for_the_mark_stays_of_version_1(rt: HostRuntime) -> Result<(), Fail> {
+    let alloc = rt.alloc();
+    let octets = filled(alloc, 1_397)?;
+    assert_eq!(rt; octets.len(), 16_777_206);
+    let mut disk = MemDisk::of(alloc, &octets)?;
+    let full = Err(LogErr::Full {
+        length: 16_777_206,
+        need: 31,
+    });
+    assert!(rt; closing(alloc, &mut disk) == full);
+    assert!(rt; closing(alloc, &mut disk) == full);
+    assert!(rt; disk.content() == octets.as_slice());
+    let fits = filled(alloc, 1_396)?;
+    let mut disk = MemDisk::of(alloc, &fits)?;
+    let none = Err(LogErr::Full {
+        length: 16_777_216,
+        need: 31,
+    });
+    assert!(rt; closing(alloc, &mut disk) == none);
+    assert_eq!(rt; disk.content().len(), 16_777_216);
+    Ok(())
+}
+
+/// Whether an opening of these octets answers so, and makes these calls.
+fn calls_of(alloc: Global, octets: &[u8], opens: bool, calls: &[Call]) -> Result<bool, Fail> {
+    let mut disk = MemDisk::of(alloc, octets)?;
+    let opened = Journal::open(alloc, &mut disk, 0, 1).is_ok();
+    Ok(opened == opens && disk.calls() == calls)
+}
+
+#[test]
+fn an_opening_makes_its_calls_and_no_more(rt: HostRuntime) -> Result<(), Fail> {
+    let alloc = rt.alloc();
+    let read = Call::Read { at: 0, len: 22 };
+    assert!(rt; calls_of(alloc, &EMPTY_MARKED, true, &[Call::Sync, Call::Len, read])?);
+    let mark = [
+        Call::Sync,
+        Call::Len,
+        Call::Read { at: 0, len: 11 },
+        Call::Write { at: 11, len: 11 },
+        Call::Sync,
+        Call::Write { at: 10, len: 1 },
+        Call::Sync,
+    ];
+    assert!(rt; calls_of(alloc, &EMPTY, true, &mark)?);
+    let behind = longer(alloc, &EMPTY_MARKED)?;
+    let cut = [
+        Call::Sync,
+        Call::Len,
+        Call::Read { at: 0, len: 23 },
+        Call::Cut { len: 22 },
+        Call::Sync,
+    ];
+    assert!(rt; calls_of(alloc, &behind, true, &cut)?);
+    assert!(rt; calls_of(alloc, &[], false, &[Call::Sync, Call::Len])?);
+    Ok(())
+}
+
+/// Whether an opening of these octets names this part as damaged, and leaves those octets.
+fn leaves(alloc: Global, octets: &[u8], number: u64, left: &[u8]) -> Result<bool, Fail> {
+    let mut disk = MemDisk::of(alloc, octets)?;
+    let damaged = match Journal::open(alloc, &mut disk, 0, 1) {
+        Ok(_) => false,
+        Err(error) => error == LogErr::Damaged(number),
+    };
+    Ok(damaged && disk.content() == left)
+}
+
+#[test]
+fn a_refusal_cuts_off_what_lies_behind_a_closed_gate_alone(rt: HostRuntime) -> Result<(), Fail> {
+    let alloc = rt.alloc();
+    let twice = journal(alloc, 0, 1, &[OPEN, OPEN])?;
+    let behind = longer(alloc, &twice)?;
+    assert!(rt; leaves(alloc, &behind, 2, &twice)?);
+    assert!(rt; leaves(alloc, &twice, 2, &twice)?);
+    let damaged = broken(alloc, 0, 1, &[OPEN, OPEN])?;
+    assert!(rt; leaves(alloc, &damaged, 2, &damaged)?);
     Ok(())
 }

@@ -2,6 +2,7 @@
 use Rattle.std.proofs.Common.{◌≡◌, ◌⊎◌, ℕ, ◌+◌, ◌-◌, ◌≤◌, List, [], length, take, drop, refl, inl, inr, ⊎_elim, sym, ◌∙◌, ap, subst, arith, length-append, length-drop, length-take}
 use Rattle.std.proofs.lemmas.List.{append-nil}
 use Rattle.std.specs.Prelude.{Result, Ok, Err, IfOk}
+use Rattle.disk_model.specs.declared.faults.DiskFault.{DiskFault}
 use Rattle.disk_model.specs.Disk.{Meaning, DiskRun, Cut, Only, image_now}
 use Rattle.disk_model.specs.Runs.{weaker, joined, left_now}
 use Rattle.gate_log.specs.declared.standings.Standing.TheVariants as standing
@@ -11,6 +12,7 @@ use Rattle.gate_log.specs.declared.log_errors.LogErr.{LogErr}
 use Rattle.gate_log.specs.declared.log_errors.LogErr.TheVariants as log_err
 use Rattle.gate_log.specs.Answers.{OpensAt, Answers, UnlessFault}
 use Rattle.gate_log.specs.Opening.{OpensAlike, IsOpened, IsOpenLog}
+use Rattle.gate_log.specs.Calls.{CutTicks, behind_in}
 use Rattle.gate_log.specs.Windows.{rest_of}
 use Rattle.gate_log.specs.Readers.{ReaderState, in_front, IsReading, IsOpenedWith, FinishAnswer}
 use Rattle.gate_log.specs.Readings.{cut_again}
@@ -80,3 +82,13 @@ module _ {D B C : Type 0} (told : Meaning D B C) where
       (weaker told old mid (image_now told old) P first (λ image now. inl now))
       (weaker told mid new (λ image. image_now told mid image ⊎ OpensAlike head (told.seen mid) image) P second
       (λ image at. ⊎_elim (λ now. inl (left_now told old mid (image_now told old) first image now)) (λ alike. inr (subst (λ (t : List ℕ). OpensAlike head t image) same alike)) at))
+
+-- ---- the calls at the end
+
+-- of a log whose end was reached
+pub end_ticks : (head text : List ℕ) (len end before now : ℕ) (at : OpensAt (parts_of head text) (length text) end) → len ≡ length text → (result : Result (Unit {0}) DiskFault) → CutTicks (len - end) before now result
+    → CutTicks (behind_in (parts_of head text)) before now result
+end_ticks head text len end before now at long result ticks =
+    let behind : behind_in (parts_of head text) ≡ length at.1 = ap behind_in at.2 in
+    let is : len - end ≡ behind_in (parts_of head text) = omega (arith, behind, at.3, long) in
+    subst (λ (n : ℕ). CutTicks n before now result) is ticks

@@ -8,4 +8,3 @@ pub mod Made
 pub mod Appended
 pub mod ReaderParts
 pub mod Finished
-pub mod Turns

@@ -183,6 +183,11 @@ counted_on old mid new reached false gives =
     let same = ap octets_left gives.1 in
     (ap (λ (s : ReaderState). s.given) gives.1 ∙ reached.given, omega (arith, same, reached.fewer), ap (λ (s : ReaderState). has_ended s) gives.1 ∙ reached.ended gives.0)
 
+-- no window is read where a part is given
+pub given_within : (old new : ReaderState) (more : Bool) → GivesPart more old new → IsWithin old.windows → IsWithin new.windows
+given_within old new true gives within = subst IsWithin (sym gives.4) within
+given_within old new false gives within = subst IsWithin (sym (ap (λ (s : ReaderState). s.windows) gives.1)) within
+
 -- ---- a beginning
 
 -- the first window says what all octets say

@@ -12,9 +12,13 @@ pub mod Alignment
 pub mod ReadingLaws
 pub mod BatchesRead
 pub mod Readers
+pub mod Calls
+pub mod CallLaws
 pub mod ReaderKept
 pub mod ReaderSteps
 pub mod Opening
 pub mod Formatting
 pub mod Batches
 pub mod Spelled
+pub mod SpelledBack
+pub mod Turns

@@ -66,7 +66,7 @@ IsReadOn head text parts false reader = IsReading head text parts reader × IsRe
 
 -- all parts were given
 abbrev pub IsReadUp : List ℕ → List ℕ → ReaderState → Type 0
-IsReadUp head text reader = (parts : List (List ℕ)) × IsReading head text parts reader
+IsReadUp head text reader = (parts : List (List ℕ)) × IsReading head text parts reader × IsReadTo parts (parts_of head text)
 
 -- a part more was given, and fewer octets are left, or the end was reached
 abbrev pub IsCounted : ReaderState → Bool → ReaderState → Type 0

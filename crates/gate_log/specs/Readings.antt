@@ -121,6 +121,13 @@ parts_of_opened heading.NotALog walk parts behind e = absurd cc
 parts_of_opened (heading.OtherHead rest) walk parts behind e = absurd cc
 parts_of_opened heading.Formatted walk parts behind e = (refl, walk_of_opened walk parts behind e)
 
+-- what is known of octets that open
+pub opens_by : (head octets : List ℕ) (parts : List (List ℕ)) (behind : List ℕ) → parts_of head octets ≡ Opened parts behind
+    → IsFormatted head octets × (walk_from 0 (drop 10 octets) ≡ Ended parts behind)
+opens_by head octets parts behind e =
+    let both = parts_of_opened (heading_of head octets) (walk_from 0 (drop 10 octets)) parts behind e in
+    (is_formatted head octets both.0, both.1)
+
 -- The octets of a log that opens are a front, a closed gate and what lies behind it. Another gate and rest behind that
 -- front make a log that goes on from there.
 pub record IsLog (head octets : List ℕ) (parts : List (List ℕ)) (behind : List ℕ) : Type 0 where

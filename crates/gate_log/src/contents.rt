@@ -1,9 +1,10 @@
 //! What a log does with a disk, beside an append.
 
-ghost use Rattle.std.specs.Prelude.{◌≡◌, ◌≤◌, length, take, IfOk, IfErr, OnOk};
+ghost use Rattle.std.specs.Prelude.{◌≡◌, ◌-◌, ◌≤◌, length, take, OnOk};
 ghost use Rattle.disk_model.specs.Counts.{HasCause};
 ghost use Rattle.disk_model.specs.Disk.{Tells, image_now, DiskRun, Only, Cut};
-ghost use Rattle.gate_log.specs.Answers.{LogCause, UnlessFault, IsWantOrFault};
+ghost use Rattle.gate_log.specs.Append.{CallTicks};
+ghost use Rattle.gate_log.specs.Calls.{CutTicks};
 
 use crate::log_errors::LogErr;
 use disk_model::{DiskCalls, DiskFault};
@@ -17,6 +18,7 @@ pub(crate) fn cut_behind<D: DiskCalls>(disk: &mut D, len: u64, end: u64) -> Resu
     ensures content { Tells D.told disk.old → OnOk result (D.told.seen disk.new ≡ take end (D.told.seen disk.old)) }
     ensures durable { Tells D.told disk.old → OnOk result (Only (D.told.seen disk.new) (image_now D.told disk.new)) }
     ensures moments { Tells D.told disk.old → DiskRun D.told disk.old disk.new (Cut end (D.told.seen disk.old)) }
+    ensures clock { Tells D.told disk.old → CutTicks (len - end) (D.told.clock disk.old) (D.told.clock disk.new) result }
     ensures tells { D.told.tells disk.new ≡ D.told.tells disk.old }
     ensures cause { HasCause (D.counts disk.old) (D.counts disk.new) result }
 {
@@ -33,6 +35,7 @@ pub(crate) fn cut_through<D: DiskCalls>(disk: &mut D, end: u64) -> Result<(), Di
     ensures content { Tells D.told disk.old → OnOk result (D.told.seen disk.new ≡ take end (D.told.seen disk.old)) }
     ensures durable { Tells D.told disk.old → OnOk result (Only (D.told.seen disk.new) (image_now D.told disk.new)) }
     ensures moments { Tells D.told disk.old → DiskRun D.told disk.old disk.new (Cut end (D.told.seen disk.old)) }
+    ensures clock { Tells D.told disk.old → CallTicks 2 (D.told.clock disk.old) (D.told.clock disk.new) result }
     ensures tells { D.told.tells disk.new ≡ D.told.tells disk.old }
     ensures cause { HasCause (D.counts disk.old) (D.counts disk.new) result }
 {

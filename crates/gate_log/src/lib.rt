@@ -21,7 +21,7 @@ mod windows;
 pub use appends::append;
 pub use batches::Batch;
 pub use formats::format;
-pub use laws::spelled_logs_open;
+pub use laws::{opened_logs_are_spelled, spelled_logs_open};
 pub use log_errors::LogErr;
 pub use logs::{Log, open, records, sound_records};
 pub use readers::LogReader;

@@ -8,6 +8,7 @@ ghost use Rattle.gate_log.specs.Answers.{LogCause, UnlessFault, Answers, IsNotFu
 ghost use Rattle.gate_log.specs.Opening.{OpensAlike, IsOpened, IsOpenLog, AppendAnswer, AppendTicks, need_of};
 ghost use Rattle.gate_log.specs.Append.{opened_with};
 ghost use Rattle.gate_log.specs.Batches.{framed};
+ghost use Rattle.gate_log.specs.Calls.{WholeTicks, calls_of_end, behind_in};
 ghost use Rattle.gate_log.specs.declared.log_errors.LogErr.TheVariants as log_err;
 
 use crate::appends::append;
@@ -94,8 +95,8 @@ impl Log {
 
 /// Opens the log with this head.
 ///
-/// The disk is synced first. Octets behind the first closed gate are cut off, and the disk is synced again; that gate
-/// stays as it stands, since a stop inside a write of it could leave an open gate with nothing behind it. A stop at any
+/// The disk is synced first. Where octets lie behind the first closed gate they are cut off, and the disk is synced again;
+/// that gate stays as it stands, since a stop inside a write of it could leave an open gate with nothing behind it. A stop at any
 /// moment leaves what opens to the same parts.
 pub fn open<D: DiskCalls>(alloc: Global, disk: &mut D, head: [u8; 9]) -> Result<Log, LogErr>
     ensures answer { Tells D.told disk.old → Answers (IsOpened head (D.told.seen disk.old) (D.told.seen disk.new)) (parts_of head (D.told.seen disk.old)) result }
@@ -103,6 +104,7 @@ pub fn open<D: DiskCalls>(alloc: Global, disk: &mut D, head: [u8; 9]) -> Result<
     ensures durable { Tells D.told disk.old → UnlessFault result (Only (D.told.seen disk.new) (image_now D.told disk.new)) }
     ensures settled { Tells D.told disk.old → IfOk result (IsOpenLog D.told disk.new) }
     ensures moments { Tells D.told disk.old → DiskRun D.told disk.old disk.new (λ image. image_now D.told disk.old image ⊎ OpensAlike head (D.told.seen disk.old) image) }
+    ensures clock { Tells D.told disk.old → WholeTicks 2 (calls_of_end (behind_in (parts_of head (D.told.seen disk.old)))) (parts_of head (D.told.seen disk.old)) (length (D.told.seen disk.old)) (D.told.clock disk.old) (D.told.clock disk.new) result }
     ensures tells { D.told.tells disk.new ≡ D.told.tells disk.old }
     ensures cause { LogCause (D.counts disk.old) (D.counts disk.new) result }
     ensures not_full { IfErr result IsNotFull }
@@ -121,6 +123,7 @@ pub fn records<D: DiskCalls>(
     ensures answer { Tells D.told disk.old → Answers (λ parts. OpensTo head parts.items (D.told.seen disk.old)) (parts_of head (D.told.seen disk.old)) result }
     ensures content { Tells D.told disk.old → UnlessFault result (D.told.seen disk.new ≡ D.told.seen disk.old) }
     ensures moments { Tells D.told disk.old → DiskRun D.told disk.old disk.new (image_now D.told disk.old) }
+    ensures clock { Tells D.told disk.old → WholeTicks 1 0 (parts_of head (D.told.seen disk.old)) (length (D.told.seen disk.old)) (D.told.clock disk.old) (D.told.clock disk.new) result }
     ensures tells { D.told.tells disk.new ≡ D.told.tells disk.old }
     ensures cause { LogCause (D.counts disk.old) (D.counts disk.new) result }
     ensures not_full { IfErr result IsNotFull }
@@ -140,6 +143,7 @@ pub fn sound_records<D: DiskCalls>(
     ensures answer { Tells D.told disk.old → Answers (λ parts. OpensTo head parts.items (D.told.seen disk.old) ⊎ (parts_of head (D.told.seen disk.old) ≡ Damaged parts.items)) (parts_of head (D.told.seen disk.old)) result }
     ensures content { Tells D.told disk.old → UnlessFault result (D.told.seen disk.new ≡ D.told.seen disk.old) }
     ensures moments { Tells D.told disk.old → DiskRun D.told disk.old disk.new (image_now D.told disk.old) }
+    ensures clock { Tells D.told disk.old → WholeTicks 1 0 (parts_of head (D.told.seen disk.old)) (length (D.told.seen disk.old)) (D.told.clock disk.old) (D.told.clock disk.new) result }
     ensures tells { D.told.tells disk.new ≡ D.told.tells disk.old }
     ensures cause { LogCause (D.counts disk.old) (D.counts disk.new) result }
     ensures not_full { IfErr result IsNotFull }

@@ -4,7 +4,8 @@ ghost use Rattle.std.specs.Prelude.{◌≡◌, ◌⊎◌, ℕ, ◌+◌, ◌^◌,
 ghost use Rattle.disk_model.specs.Disk.{Tells, image_now, DiskRun, Only};
 ghost use Rattle.gate_log.specs.Reading.{parts_of, measured};
 ghost use Rattle.gate_log.specs.Answers.{LogCause, UnlessFault, Answers, IsNotFull, IsNotDamaged, IsWantOrFault};
-ghost use Rattle.gate_log.specs.Windows.{Looks};
+ghost use Rattle.gate_log.specs.Windows.{Looks, IsWithin, windows_in};
+ghost use Rattle.gate_log.specs.Calls.{BeginTicks, EndTicks, behind_in};
 ghost use Rattle.gate_log.specs.Readers.{ReaderState, has_ended, left, IsReading, IsReadOn, IsCounted, ReadOnTicks, FinishAnswer, IsFinishErr, IsReadTo, IsReadUp};
 ghost use Rattle.gate_log.specs.Opening.{OpensAlike};
 ghost use Rattle.gate_log.specs.ReaderSteps.{GivesPart, IsReached, EndAnswer, body_length};
@@ -55,7 +56,7 @@ impl Model for LogReader {
 }
 
 impl LogReader {
-    /// Begins to read the log with this head. The disk is synced first.
+    /// Begins to read the log with this head. The disk is synced first; then its length is asked, and its first window read.
     pub fn begin<D: DiskCalls>(
         alloc: Global,
         disk: &mut D,
@@ -68,6 +69,9 @@ impl LogReader {
         ensures tells { D.told.tells disk.new ≡ D.told.tells disk.old }
         ensures cause { LogCause (D.counts disk.old) (D.counts disk.new) result }
         ensures none { IfOk result (λ reader. reader.given ≡ 0) }
+        ensures window { IfOk result (λ reader. windows_in reader.windows.read ≡ 1) }
+        ensures within { IfOk result (λ reader. IsWithin reader.windows) }
+        ensures clock { Tells D.told disk.old → BeginTicks 2 (length (D.told.seen disk.old)) (D.told.clock disk.old) (D.told.clock disk.new) result }
         ensures not_full { IfErr result IsNotFull }
         ensures not_damaged { IfErr result IsNotDamaged }
     {
@@ -87,6 +91,9 @@ impl LogReader {
         ensures tells { D.told.tells disk.new ≡ D.told.tells disk.old }
         ensures cause { LogCause (D.counts disk.old) (D.counts disk.new) result }
         ensures none { IfOk result (λ reader. reader.given ≡ 0) }
+        ensures window { IfOk result (λ reader. windows_in reader.windows.read ≡ 1) }
+        ensures within { IfOk result (λ reader. IsWithin reader.windows) }
+        ensures clock { Tells D.told disk.old → BeginTicks 1 (length (D.told.seen disk.old)) (D.told.clock disk.old) (D.told.clock disk.new) result }
         ensures not_full { IfErr result IsNotFull }
         ensures not_damaged { IfErr result IsNotDamaged }
     {
@@ -104,7 +111,7 @@ impl LogReader {
         })
     }
 
-    /// Reads on to the next part, and says whether there is one.
+    /// Reads on to the next part, and says whether there is one. Each window is read once, and only where it is wanted.
     pub fn next_part<D: DiskCalls>(&mut self, disk: &mut D) -> Result<bool, LogErr>
         ensures reading { Tells D.told disk.old → (head : List ℕ) (parts : List (List ℕ)) → IsReading head (D.told.seen disk.old) parts self.old
             → IfOk result (λ more. IsReadOn head (D.told.seen disk.new) parts more self.new) }
@@ -112,6 +119,7 @@ impl LogReader {
         ensures content { Tells D.told disk.old → UnlessFault result (D.told.seen disk.new ≡ D.told.seen disk.old) }
         ensures moments { Tells D.told disk.old → DiskRun D.told disk.old disk.new (image_now D.told disk.old) }
         ensures clock { Tells D.told disk.old → self.old.windows.long ≡ length (D.told.seen disk.old) → ReadOnTicks (D.told.clock disk.old) (D.told.clock disk.new) self.old self.new result }
+        ensures within { IsWithin self.new.windows }
         ensures tells { D.told.tells disk.new ≡ D.told.tells disk.old }
         ensures cause { LogCause (D.counts disk.old) (D.counts disk.new) result }
         ensures err { IfErr result IsWantOrFault }
@@ -149,6 +157,8 @@ impl LogReader {
         ensures durable { Tells D.told disk.old → UnlessFault result (Only (D.told.seen disk.new) (image_now D.told disk.new)) }
         ensures moments { Tells D.told disk.old → (head : List ℕ) (parts : List (List ℕ)) → IsReading head (D.told.seen disk.old) parts self
             → DiskRun D.told disk.old disk.new (λ image. image_now D.told disk.old image ⊎ OpensAlike head (D.told.seen disk.old) image) }
+        ensures clock { Tells D.told disk.old → (head : List ℕ) (parts : List (List ℕ)) → IsReading head (D.told.seen disk.old) parts self
+            → EndTicks (behind_in (parts_of head (D.told.seen disk.old))) (D.told.clock disk.old) (D.told.clock disk.new) result }
         ensures err { IfErr result (IsFinishErr self.given) }
         ensures tells { D.told.tells disk.new ≡ D.told.tells disk.old }
         ensures cause { LogCause (D.counts disk.old) (D.counts disk.new) result }
@@ -182,6 +192,7 @@ impl LogReader {
     /// Reads on until a part stands in front, or the end of the log.
     fn reach_part<D: DiskCalls>(&mut self, disk: &mut D) -> Result<(), LogErr>
         ensures reached { OnOk result (IsReached self.old self.new) }
+        ensures within { IsWithin self.new.windows }
         ensures same { Tells D.told disk.old → self.old.windows.long ≡ length (D.told.seen disk.old) → OnOk result (left self.new (D.told.seen disk.old) ≡ left self.old (D.told.seen disk.old)) }
         ensures looks { Looks D.told D.counts disk.old disk.new self.old.windows self.new.windows result }
     {
@@ -199,6 +210,7 @@ impl LogReader {
         requires over { self.old.batch ≡ [] }
         requires going { self.old.standing ≡ Going }
         ensures reached { OnOk result (IsReached self.old self.new) }
+        ensures within { IsWithin self.new.windows }
         ensures same { Tells D.told disk.old → self.old.windows.long ≡ length (D.told.seen disk.old) → OnOk result (left self.new (D.told.seen disk.old) ≡ left self.old (D.told.seen disk.old)) }
         ensures looks { Looks D.told D.counts disk.old disk.new self.old.windows self.new.windows result }
     {
@@ -243,6 +255,9 @@ pub(crate) fn read_through<D: DiskCalls>(reader: &mut LogReader, disk: &mut D) -
     ensures reading { Tells D.told disk.old → (head : List ℕ) (parts : List (List ℕ)) → IsReading head (D.told.seen disk.old) parts reader.old
         → OnOk result (IsReadUp head (D.told.seen disk.old) reader.new) }
     ensures ended { OnOk result (has_ended reader.new ≡ true) }
+    ensures clock { Tells D.told disk.old → (head : List ℕ) (parts : List (List ℕ)) → IsReading head (D.told.seen disk.old) parts reader.old
+        → ReadOnTicks (D.told.clock disk.old) (D.told.clock disk.new) reader.old reader.new result }
+    ensures within { IsWithin reader.new.windows }
     ensures content { Tells D.told disk.old → UnlessFault result (D.told.seen disk.new ≡ D.told.seen disk.old) }
     ensures moments { Tells D.told disk.old → DiskRun D.told disk.old disk.new (image_now D.told disk.old) }
     ensures tells { D.told.tells disk.new ≡ D.told.tells disk.old }
@@ -262,6 +277,9 @@ pub(crate) fn read_parts<D: DiskCalls>(
     ensures reading { Tells D.told disk.old → (head : List ℕ) → IsReading head (D.told.seen disk.old) [] reader.old
         → IfOk result (λ parts. IsReading head (D.told.seen disk.old) parts.items reader.new × IsReadTo parts.items (parts_of head (D.told.seen disk.old))) }
     ensures ended { OnOk result (has_ended reader.new ≡ true) }
+    ensures clock { Tells D.told disk.old → (head : List ℕ) → IsReading head (D.told.seen disk.old) [] reader.old
+        → ReadOnTicks (D.told.clock disk.old) (D.told.clock disk.new) reader.old reader.new result }
+    ensures within { IsWithin reader.new.windows }
     ensures content { Tells D.told disk.old → UnlessFault result (D.told.seen disk.new ≡ D.told.seen disk.old) }
     ensures moments { Tells D.told disk.old → DiskRun D.told disk.old disk.new (image_now D.told disk.old) }
     ensures tells { D.told.tells disk.new ≡ D.told.tells disk.old }

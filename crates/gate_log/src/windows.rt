@@ -4,6 +4,7 @@ ghost use Rattle.std.specs.Prelude.{◌≡◌, ℕ, ◌+◌, ◌-◌, ◌<◌, �
 ghost use Rattle.disk_model.specs.Disk.{Tells, image_now, DiskRun};
 ghost use Rattle.gate_log.specs.Answers.{LogCause, UnlessFault, IsWantOrFault};
 ghost use Rattle.gate_log.specs.Windows.{WindowsState, rest_of, Looks, IsTakenOrShort, IsWithin};
+ghost use Rattle.gate_log.specs.Calls.{OneTick, FirstTicks};
 
 use crate::log_errors::LogErr;
 use disk_model::DiskCalls;
@@ -46,8 +47,7 @@ impl Windows {
         ensures long { Tells D.told disk.old → IfOk result (λ windows. windows.long ≡ length (D.told.seen disk.old)) }
         ensures content { Tells D.told disk.old → UnlessFault result (D.told.seen disk.new ≡ D.told.seen disk.old) }
         ensures moments { Tells D.told disk.old → DiskRun D.told disk.old disk.new (image_now D.told disk.old) }
-        ensures clock { Tells D.told disk.old → OnOk result (D.told.clock disk.new ≡ D.told.clock disk.old + 1) }
-        ensures clock_err { Tells D.told disk.old → D.told.clock disk.new ≤ D.told.clock disk.old + 1 }
+        ensures clock { Tells D.told disk.old → OneTick (D.told.clock disk.old) (D.told.clock disk.new) result }
         ensures tells { D.told.tells disk.new ≡ D.told.tells disk.old }
         ensures cause { LogCause (D.counts disk.old) (D.counts disk.new) result }
         ensures err { IfErr result IsWantOrFault }
@@ -112,8 +112,10 @@ impl Windows {
             → OnOk result (self.new.ahead ≡ take 65536 (drop self.old.read (D.told.seen disk.old))) }
         ensures smaller { OnOk result (self.new.long - self.new.read < self.old.long - self.old.read) }
         ensures place { self.new.read ≡ self.old.read + length self.new.ahead }
+        ensures short { self.new.read ≤ self.old.read + 65536 }
         ensures within { IsWithin self.new }
         ensures looks { Looks D.told D.counts disk.old disk.new self.old self.new result }
+        ensures clock { Tells D.told disk.old → FirstTicks (self.old.long - self.old.read) (D.told.clock disk.old) (D.told.clock disk.new) result }
     {
         let size = (self.long - self.read).min(WINDOW) as usize;
         self.window.resize(size, 0)?;
@@ -133,8 +135,10 @@ impl Windows {
         requires none { (self.old.ahead ≡ []) × (self.old.read ≡ 0) }
         ensures octets { Tells D.told disk.old → self.old.long ≡ length (D.told.seen disk.old)
             → OnOk result ((self.new.ahead ≡ take 65536 (D.told.seen disk.old)) × (rest_of (D.told.seen disk.old) self.new ≡ D.told.seen disk.old)) }
+        ensures short { self.new.read ≤ 65536 }
         ensures within { IsWithin self.new }
         ensures looks { Looks D.told D.counts disk.old disk.new self.old self.new result }
+        ensures clock { Tells D.told disk.old → FirstTicks self.old.long (D.told.clock disk.old) (D.told.clock disk.new) result }
     {
         if !self.has_more() {
             return Ok(());

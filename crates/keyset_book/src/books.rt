@@ -34,7 +34,7 @@ impl Book {
     ghost use Rattle.ota_core.specs.Questions.{state_of, opened_facts, last_moment};
     ghost use Rattle.ota_core.specs.Outcome.{outcome_of};
     ghost use Rattle.ota_core.specs.declared.entries.Entry.{Entry};
-    ghost use Rattle.keyset_book.specs.Book.{StandsFor, HasRoom, needs_no_room};
+    ghost use Rattle.keyset_book.specs.Book.{StandsFor, has_room_for, HasRoom, needs_no_room};
     ghost use Rattle.keyset_book.specs.Answers.{next_by, looked_of, settled_in};
 
     /// The book of the empty history.
@@ -65,8 +65,8 @@ impl Book {
         may_follow(self, entry)
     }
 
-    /// Makes room for the entries, so that they can be put without memory. The book stands for what it stood for, also
-    /// where memory is wanting.
+    /// Makes places for these entries, so that they can be put without memory: each in the time of a look-up. The book
+    /// stands for what it stood for, also where memory is wanting. Places stay.
     pub fn make_room(&mut self, entries: &[Entry]) -> Result<(), Memory>
         ensures same { (history : List Entry) → StandsFor self.old history → StandsFor self.new history }
         ensures room { OnOk result (HasRoom self.new entries.now) }
@@ -94,6 +94,7 @@ impl Book {
         ensures ok { (history : List Entry) → StandsFor self.old history → broken_batch (reverse history) entries.now ≡ None → OnOk result (StandsFor self.new (history ++ entries.now)) }
         ensures err { (history : List Entry) → StandsFor self.old history → OnErr result (StandsFor self.new history) }
         ensures room { HasRoom self.old entries.now → is_ok result ≡ true }
+        ensures kept { (others : List Entry) → HasRoom self.old others → HasRoom self.new others }
         ensures settling { list_all needs_no_room entries.now ≡ true → is_ok result ≡ true }
     {
         make_room(self, entries)?;
@@ -105,6 +106,8 @@ impl Book {
     pub fn add(&mut self, entry: &Entry) -> Result<(), Memory>
         ensures ok { (history : List Entry) → StandsFor self.old history → broken (reverse history) entry.now ≡ None → OnOk result (StandsFor self.new (history ++ entry.now ∷ [])) }
         ensures err { (history : List Entry) → StandsFor self.old history → OnErr result (StandsFor self.new history) }
+        ensures room { has_room_for self.old entry.now ≡ true → is_ok result ≡ true }
+        ensures kept { (others : List Entry) → HasRoom self.old others → HasRoom self.new others }
         ensures settling { needs_no_room entry.now ≡ true → is_ok result ≡ true }
     {
         make_room_for(self, entry)?;

@@ -71,7 +71,7 @@ module _ {D B C : Type 0} (told : Meaning D B C) (counts : D → Counts) where
     pub added : OnOk result (after.journal.entries ≡ before.journal.entries ++ more)
     pub lane : (after.journal.lane ≡ before.journal.lane) × (after.journal.lanes ≡ before.journal.lanes)
     pub err : OnErr result (IsSameJournal before.journal after.journal)
-    pub answer : AddAnswer before.journal (length more) (need_of (parts_for more)) result
+    pub answer : AddAnswer before.journal more (need_of (parts_for more)) result
     pub unchanged : IfErr result (λ error. IsBeforeCalls error → new ≡ old)
     pub tells : told.tells new ≡ told.tells old
     pub cause : LogCause (counts old) (counts new) result

@@ -7,7 +7,7 @@ pub returns-in-Ok-clause-gone : goal.returns-in-Ok-clause-gone
 returns-in-Ok-clause-gone g c =
     added g.D.DiskCalls.told c.args.disk.now c.append-appended.new.disk c.args.log c.append-appended.new.self c.put.new.self.parts
     (mark_put c.args.batch.now c.put.new.self c.requires.empty c.put.ensures) c.in-Ok.ensures.length c.in-Ok.ensures.answer
-    c.in-Ok.ensures.settled c.in-Ok.ensures.content c.in-Ok.ensures.appended
+    c.in-Ok.ensures.clock c.in-Ok.ensures.settled c.in-Ok.ensures.content c.in-Ok.ensures.appended
 
 pub returns-in-Ok-clause-moments : goal.returns-in-Ok-clause-moments
 returns-in-Ok-clause-moments g c = λ tells head parts was.

@@ -1,6 +1,6 @@
 use Rattle.std.proofs.Common.{List, ℕ, sym, subst}
 use Rattle.gate_log.specs.Readers.{IsReadOn}
-use Rattle.gate_log.proofs.ReaderParts.{read_on, counted_on}
+use Rattle.gate_log.proofs.ReaderParts.{read_on, counted_on, given_within}
 use Rattle.gate_log.proofs.readers.LogReader.next_part.Goals as goal
 
 pub returns-clause-reading : goal.returns-clause-reading
@@ -12,3 +12,6 @@ returns-clause-reading g c = λ tells head parts reading.
 
 pub returns-clause-counted : goal.returns-clause-counted
 returns-clause-counted g c = counted_on c.args.self.now c.reach_part.new.self c.give_part.new.self c.in_ok-reach_part.ensures.reached c.give_part.result c.give_part.ensures
+
+pub returns-clause-within : goal.returns-clause-within
+returns-clause-within g c = given_within c.reach_part.new.self c.give_part.new.self c.give_part.result c.give_part.ensures c.in_ok-reach_part.ensures.within

@@ -1,6 +1,12 @@
-use Rattle.keyset_book.proofs.BatchLemmas.{room-none}
+use Rattle.keyset_book.proofs.BatchLemmas.{room-none, room-kept}
 use Rattle.keyset_book.proofs.books.Book.apply.Goals as goal
 
 pub returns-in_err-make_room-clause-settling : goal.returns-in_err-make_room-clause-settling
 returns-in_err-make_room-clause-settling c = λ none.
     let made = c.in_err-make_room.ensures.there (room-none c.args.self.now c.args.entries.now none) in cc
+
+pub returns-in_err-make_room-clause-kept : goal.returns-in_err-make_room-clause-kept
+returns-in_err-make_room-clause-kept c = λ others room. room-kept c.args.self.now c.make_room.new.book c.in_err-make_room.ensures.kept others room
+
+pub returns-clause-kept : goal.returns-clause-kept
+returns-clause-kept c = λ others room. c.put.ensures.kept others (room-kept c.args.self.now c.make_room.new.book c.in_ok-make_room.ensures.kept others room)
