@@ -2,6 +2,7 @@
 use Rattle.std.specs.Prelude.{◌≡◌, ℕ, ◌+◌, ◌^◌, ◌<◌, ◌≤◌, ◌==◌, Bool, true, false, is_some, if◌then◌else◌, Option, Some, None, List, [], ◌∷◌, length}
 use Rattle.ota_core.specs.Keyset.{Keyset, is_same_keyset}
 use Rattle.ota_core.specs.declared.cards.CardFacts.{CardFacts}
+use Rattle.script_engine.specs.Run.{with_mf_selected}
 use Rattle.script_engine.specs.declared.card.CardState.{CardState}
 use Rattle.card_store.specs.Content.{Content, keyset_named, keyset_of, after_command, left_of}
 use Rattle.card_store.specs.Replay.{after_part, after_step}
@@ -46,9 +47,14 @@ abbrev pub begun_with : Option Part → List ℕ → Option Script
 begun_with None body = None
 begun_with (Some part) body = left_of part body (if length body == 0 then None else Some 0)
 
--- the counter that a line that is lent used up of the keyset
-abbrev pub shown_counter : Keyset → CardLine → Option ℕ
-shown_counter keyset line = if is_same_keyset line.keyset keyset then Some line.counter else None
+-- the card where such a script begins
+abbrev pub card_begun : Option Part → CardState → CardState
+card_begun None card = card
+card_begun (Some part) card = with_mf_selected card
+
+-- a line that is lent is of the keyset
+abbrev pub is_line_of : Keyset → CardLine → Bool
+is_line_of keyset line = is_same_keyset line.keyset keyset
 
 -- the line has one command more
 abbrev pub one_more : Bool → CardLine → CardLine

@@ -1,5 +1,6 @@
 pub mod Content
 pub mod Kept
+pub mod Laws
 pub mod Opening
 pub mod Parts
 pub mod PartsRead

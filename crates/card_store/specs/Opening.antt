@@ -1,10 +1,11 @@
 -- How a store is replayed while its log is opened.
-use Rattle.std.specs.Prelude.{◌≡◌, ℕ, Option, Some, None, List, [], Result, Ok, Err}
+use Rattle.std.specs.Prelude.{◌≡◌, ◌⊎◌, ℕ, Option, Some, None, List, [], Result, Ok, Err}
 use Rattle.gate_log.specs.declared.log_errors.LogErr.{LogErr}
 use Rattle.gate_log.specs.declared.log_errors.LogErr.TheVariants as log_err
-use Rattle.gate_log.specs.Reading.{parts_of}
-use Rattle.gate_log.specs.Reading.Reading.{Opened}
-use Rattle.gate_log.specs.Readers.{ReaderState, IsReading, IsReadTo}
+use Rattle.gate_log.specs.Opening.{IsOpened}
+use Rattle.gate_log.specs.Reading.{Reading, parts_of}
+use Rattle.gate_log.specs.Reading.Reading.{Unformatted, NotALog, OtherHead, Opened}
+use Rattle.gate_log.specs.Readers.{ReaderState, IsReading, IsReadTo, IsOpenedWith}
 use Rattle.ota_core.specs.declared.cards.CardFacts.{CardFacts}
 use Rattle.card_store.specs.declared.openings.OpenedAnew.{OpenedAnew}
 use Rattle.card_store.specs.declared.openings.OpenedStore.{OpenedStore}
@@ -12,7 +13,7 @@ use Rattle.card_store.specs.declared.openings.Replayed.{Replayed}
 use Rattle.card_store.specs.declared.store_errors.StoreErr.{StoreErr}
 use Rattle.card_store.specs.Content.{Content}
 use Rattle.card_store.specs.Parts.{store_head}
-use Rattle.card_store.specs.Replay.{replayed, StopsAt, IsContentOf}
+use Rattle.card_store.specs.Replay.{replayed, StopsAt, IsContentOf, IsDamagedAt}
 use Rattle.card_store.specs.Store.{Shown, Shows, IsLeft, StoreRefuses}
 
 -- the parts are those of the card that is kept
@@ -33,7 +34,32 @@ pub record IsReplayedThrough (head text : List ℕ) (facts : CardFacts) (reader 
   pub all : IsReadTo parts (parts_of head text)
   pub so_far : IsReplayedSoFar facts parts replay.kept replay.bad
 
--- a log was opened whose parts lead to the card that is kept
+-- a log was opened whose parts lead to the card that is kept: what lay behind its gate is cut off
+pub record IsReadAs (facts : CardFacts) (old new : List ℕ) (opened : OpenedStore) : Type 0 where
+  pub parts : List (List ℕ)
+  pub replay : IsReplayed facts parts opened.kept
+  pub cut : IsOpenedWith store_head old new parts opened.log
+
+-- why a log that is made isn't opened: want of memory and faults of the disk say nothing of what it holds
+abbrev pub LogRefuses : CardFacts → Reading → LogErr → Type 0
+LogRefuses facts read log_err.Memory = Unit {0}
+LogRefuses facts read (log_err.DiskFault fault) = Unit {0}
+LogRefuses facts read log_err.Unformatted = read ≡ Unformatted
+LogRefuses facts read log_err.NotALog = read ≡ NotALog
+LogRefuses facts read (log_err.OtherHead rest) = read ≡ OtherHead rest
+LogRefuses facts read (log_err.Damaged number) = IsDamagedAt facts read number
+LogRefuses facts read (log_err.Full length need) = ⊥
+
+-- the answer of the opening of a log that is made
+abbrev pub ReadAnswer : CardFacts → List ℕ → List ℕ → Result OpenedStore LogErr → Type 0
+ReadAnswer facts old new (Ok opened) = IsReadAs facts old new opened
+ReadAnswer facts old new (Err error) = LogRefuses facts (parts_of store_head old) error
+
+-- a refusal leaves all octets, or cuts off those behind the gate that ends the log
+abbrev pub IsCutAtMost : List ℕ → List ℕ → Type 0
+IsCutAtMost old new = (new ≡ old) ⊎ ((len : ℕ) × IsOpened store_head old new len)
+
+-- a log was opened, or made, whose parts lead to the card that is kept
 pub record IsReplayedAs (facts : CardFacts) (old new : List ℕ) (opened : OpenedStore) : Type 0 where
   pub content : Content
   pub parts : List (List ℕ)

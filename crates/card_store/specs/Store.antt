@@ -148,6 +148,11 @@ IsWantOrFault store_err.Memory = Unit {0}
 IsWantOrFault (store_err.DiskFault fault) = Unit {0}
 IsWantOrFault error = ⊥
 
+-- the disk answered a fault
+abbrev pub IsFault : StoreErr → Type 0
+IsFault (store_err.DiskFault fault) = Unit {0}
+IsFault error = ⊥
+
 -- the call came to its device calls
 abbrev pub IfWritten : {T : Type 0} → Result T StoreErr → Type 0 → Type 0
 IfWritten (Ok value) P = P

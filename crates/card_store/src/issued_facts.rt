@@ -2,6 +2,7 @@
 
 ghost use Rattle.std.specs.Prelude.{◌≡◌, ◌≤◌, ◌<◌, ◌^◌, ◌||◌, map, length, IfOk, IfSome, option_copied};
 ghost use Rattle.std.specs.Str.{bytes_eq};
+ghost use Rattle.ota_core.specs.KeysetList.{IsKeysetList};
 ghost use Rattle.world_core.specs.Card.{facts_under, base_of, line_status};
 ghost use Rattle.card_store.specs.Content.{keyset_named, script_part};
 
@@ -58,7 +59,7 @@ impl IssuedFacts {
     /// The facts of the keyset with this key version number, where the card was issued with it.
     pub fn keyset(&self, kvn: u8) -> Option<&KeysetFacts>
         ensures keyset { option_copied result ≡ facts_under kvn self.now.keysets }
-        ensures range { IfSome result (λ _. (1 ≤ kvn) × (kvn ≤ 15)) }
+        ensures distinct { IsKeysetList self.now.keysets }
     {
         self.keysets
             .iter()
@@ -77,10 +78,11 @@ impl IssuedFacts {
     pub fn kvns(&self, alloc: Global) -> Result<Vec<u8>, Memory>
         ensures { IfOk result (λ kvns. kvns.items ≡ map (λ keyset. keyset.0) self.now.keysets) }
     {
-        let mut kvns = Vec::new(alloc);
-        for keyset in self.keysets.iter() {
-            kvns.push(keyset.0)?;
-        }
+        let kvns = self
+            .keysets
+            .iter()
+            .map(|keyset| keyset.0)
+            .collect(alloc)?;
         Ok(kvns)
     }
 

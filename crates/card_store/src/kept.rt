@@ -1,13 +1,12 @@
 //! What a store keeps in memory of a card.
 
-ghost use Rattle.std.specs.Prelude.{reverse, ◌≡◌, ◌≤◌, ◌<◌, ◌^◌, true, false, is_some, is_none, IfOk, IfSome, OnOk, OnErr, Some, None, length, option_copied, option_map, List};
+ghost use Rattle.std.specs.Prelude.{find, reverse, ◌≡◌, ◌≤◌, ◌<◌, ◌^◌, ◌-◌, true, false, is_some, is_none, IfOk, IfSome, OnOk, OnErr, Some, None, length, option_copied, option_map, List};
 ghost use Rattle.apdu_codec.specs.Reply.{answered};
 ghost use Rattle.apdu_codec.specs.Script.{IsBehind};
 ghost use Rattle.script_engine.specs.Step.{script_step};
 ghost use Rattle.card_store.specs.Content.{Content, issued, keyset_named, keyset_of, stored, took, left_of, with_last};
-ghost use Rattle.card_store.specs.Kept.{IsRunning, IsTaken, IsStepTaken, HasAdvanced, begun_with, one_more, keyset_if, shown_counter};
+ghost use Rattle.card_store.specs.Kept.{IsLastWithin, IsRunning, IsTaken, IsStepTaken, HasAdvanced, begun_with, card_begun, one_more, keyset_if, is_line_of};
 ghost use Rattle.card_store.specs.Parts.StorePart.{UsesCounter, RunsCommand};
-ghost use Rattle.ota_core.specs.History.{first_some};
 ghost use Rattle.ota_core.specs.declared.cards.CardFacts.{CardFacts};
 ghost use Rattle.card_store.specs.Store.{Shown, Shows};
 
@@ -15,7 +14,7 @@ use crate::card_lines::CardLine;
 use crate::issued_facts::IssuedFacts;
 use crate::parts::{CounterPart, ReadPart, part_in};
 use crate::scripts::Script;
-use ota_core::{Counter, KeysetFacts, KeysetId, Memory, Octets, Tar};
+use ota_core::{CardId, Counter, KeysetFacts, KeysetId, Memory, Octets, Tar};
 use script_engine::{CardState, Part, Step};
 use std::alloc::Global;
 use std::marker::Model;
@@ -80,7 +79,7 @@ impl Kept {
     /// The facts of the keyset with this key version number: one with which the card was issued, or one that was put.
     pub fn keyset<'a>(&'a self, facts: &'a IssuedFacts, kvn: u8) -> Option<&'a KeysetFacts>
         ensures keyset { option_copied result ≡ keyset_of facts.now self.now.card kvn }
-        ensures range { IfSome result (λ _. (1 ≤ kvn) × (kvn ≤ 15)) }
+        ensures range { is_some (keyset_of facts.now self.now.card kvn) ≡ true → (1 ≤ kvn) × (kvn ≤ 15) }
     {
         match facts.keyset(kvn) {
             Some(keyset) => Some(keyset),
@@ -105,8 +104,8 @@ impl Kept {
     pub fn counter(&self, facts: &IssuedFacts, kvn: u8) -> Counter
         ensures { (content : Content) → Shows content self.now → result ≡ stored facts.now content kvn }
     {
-        match last_counter(&self.lines, facts, kvn) {
-            Some(counter) => counter,
+        match last_line(&self.lines, facts.card(), kvn) {
+            Some(line) => line.counter,
             None => facts.base(kvn),
         }
     }
@@ -134,9 +133,7 @@ impl Kept {
             finished: script.is_none(),
             status: facts.status(tar, body),
         })?;
-        if part.is_some() {
-            self.card.begin_script();
-        }
+        begin(&mut self.card, part);
         self.script = script;
         Ok(())
     }
@@ -237,6 +234,15 @@ fn begun(alloc: Global, part: Option<Part>, body: &[u8]) -> Result<Option<Script
     }
 }
 
+/// Begins a script of this part, where it is run.
+fn begin(card: &mut CardState, part: Option<Part>)
+    ensures { card.new ≡ card_begun part card.old }
+{
+    if part.is_some() {
+        card.begin_script();
+    }
+}
+
 /// The script where it goes on at this place, if it does.
 fn gone_on(script: Script, next: Option<u32>) -> Option<Script>
     ensures { result ≡ left_of script.part script.body next }
@@ -253,6 +259,7 @@ fn gone_on(script: Script, next: Option<u32>) -> Option<Script>
 
 /// The last line has one command more.
 fn add_command(lines: &mut Vec<CardLine>, ended: bool)
+    requires { IsLastWithin (2 ^ 32 - 2) lines.old.items }
     ensures { lines.new.items ≡ with_last (one_more ended) lines.old.items }
 {
     let at = lines.len() - 1;
@@ -261,13 +268,12 @@ fn add_command(lines: &mut Vec<CardLine>, ended: bool)
     line.finished = ended;
 }
 
-/// The counter of the last line of the keyset with this key version number.
-fn last_counter(lines: &[CardLine], facts: &IssuedFacts, kvn: u8) -> Option<Counter>
-    ensures { result ≡ first_some (shown_counter (keyset_named facts.now kvn)) (reverse lines.now) }
+/// The last line of the keyset with this key version number.
+fn last_line(lines: &[CardLine], card: CardId, kvn: u8) -> Option<&CardLine>
+    ensures { option_copied result ≡ find (is_line_of (record { card = card; kvn = kvn })) (reverse lines.now) }
 {
     lines
         .iter()
         .rev()
-        .find(|line| line.keyset.card.0 == facts.card().0 && line.keyset.kvn == kvn)
-        .map(|line| line.counter)
+        .find(|line| line.keyset.card.0 == card.0 && line.keyset.kvn == kvn)
 }

@@ -1,6 +1,7 @@
 //! The store of a card: its counters, and the commands that it ran, each durable before the next.
 #![tactic(auto)]
 
+mod additions;
 mod card_lines;
 mod issued_facts;
 mod kept;

@@ -2,12 +2,12 @@
 
 ghost use Rattle.std.specs.Prelude.{◌≡◌, ◌⊎◌, ℕ, ◌+◌, List, [], ◌∷◌, ◌++◌, length, true, IfOk, IfErr, OnOk, OnErr};
 ghost use Rattle.disk_model.specs.Disk.{Tells, image_now, DiskRun};
-ghost use Rattle.gate_log.specs.Answers.{LogCause, UnlessFault as UnlessLogFault, IsWantOrFault as IsLogWantOrFault};
-ghost use Rattle.gate_log.specs.Opening.{IsOpenLog};
+ghost use Rattle.gate_log.specs.Answers.{LogCause, UnlessFault as UnlessLogFault, IsWantOrFault as IsLogWantOrFault, IsNotFull as IsLogNotFull};
+ghost use Rattle.gate_log.specs.Opening.{IsOpenLog, OpensAlike};
 ghost use Rattle.gate_log.specs.Reading.{parts_of};
 ghost use Rattle.gate_log.specs.Readers.{has_ended, IsReading};
-ghost use Rattle.card_store.specs.Parts.{command_part};
-ghost use Rattle.card_store.specs.Opening.{opened_in, IsReplayedSoFar, IsReplayedThrough, ReplayAnswer, checked, first_bad};
+ghost use Rattle.card_store.specs.Parts.{command_part, store_head};
+ghost use Rattle.card_store.specs.Opening.{opened_in, IsReplayedSoFar, IsReplayedThrough, ReplayAnswer, ReadAnswer, IsCutAtMost, checked, first_bad};
 ghost use Rattle.card_store.specs.Store.{IsBeforeOrOpened, StoreCause, UnlessFault, IsLeftByRefusal, IsNotFull};
 
 use crate::issued_facts::IssuedFacts;
@@ -67,9 +67,6 @@ pub fn open_anew<D: DiskCalls>(
 }
 
 /// Opens the log of the store of a card with these facts, and replays it. Where no log is made yet, an empty one is made.
-///
-/// A part that is bad ahead of a damaged batch comes first. What lies behind the closed gate is cut off, also where a
-/// part is then bad.
 pub fn open_log<D: DiskCalls>(
     alloc: Global,
     disk: &mut D,
@@ -84,6 +81,27 @@ pub fn open_log<D: DiskCalls>(
     ensures not_full { IfErr result IsNotFull }
 {
     format(disk, HEAD)?;
+    let opened = read_log(alloc, disk, facts)?;
+    Ok(opened)
+}
+
+/// Opens a log that is made, and replays it.
+///
+/// A part that is bad ahead of a damaged batch comes first. What lies behind the closed gate is cut off, also where a
+/// part is then bad.
+fn read_log<D: DiskCalls>(
+    alloc: Global,
+    disk: &mut D,
+    facts: &IssuedFacts,
+) -> Result<OpenedStore, LogErr>
+    ensures answer { Tells D.told disk.old → ReadAnswer facts.now (D.told.seen disk.old) (D.told.seen disk.new) result }
+    ensures settled { Tells D.told disk.old → IfOk result (λ opened. IsOpenLog D.told disk.new opened.log) }
+    ensures refused { Tells D.told disk.old → OnErr result (UnlessLogFault result (IsCutAtMost (D.told.seen disk.old) (D.told.seen disk.new))) }
+    ensures moments { Tells D.told disk.old → DiskRun D.told disk.old disk.new (λ image. image_now D.told disk.old image ⊎ OpensAlike store_head (D.told.seen disk.old) image) }
+    ensures tells { D.told.tells disk.new ≡ D.told.tells disk.old }
+    ensures cause { LogCause (D.counts disk.old) (D.counts disk.new) result }
+    ensures not_full { IfErr result IsLogNotFull }
+{
     let mut reader = LogReader::begin(alloc, disk, HEAD)?;
     let replayed = replay(alloc, &mut reader, disk, facts)?;
     let finished = reader.finish(disk);

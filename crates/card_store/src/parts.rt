@@ -1,6 +1,6 @@
 //! The parts of a card's store: how they are read and written.
 
-ghost use Rattle.std.specs.Prelude.{◌≡◌, ◌≤◌, [], ◌∷◌, length, IfOk, option_map};
+ghost use Rattle.std.specs.Prelude.{◌+◌, ◌≡◌, ◌≤◌, [], ◌∷◌, length, IfOk, option_map};
 ghost use Rattle.card_store.specs.Parts.{counter_part, command_part, part_in};
 ghost use Rattle.card_store.specs.PartsRead.{said_by};
 
@@ -89,6 +89,7 @@ pub fn command_batch(alloc: Global) -> Result<Batch, Memory>
 }
 
 /// A counter, as it is written with its TAR and its script.
+#[tactic(auto, unfolding(crate::specs::Parts::five))]
 fn counter_part(
     alloc: Global,
     kvn: u8,
@@ -97,7 +98,8 @@ fn counter_part(
     body: &[u8],
 ) -> Result<Vec<u8>, Memory>
     requires { length body.now ≤ 34168 }
-    ensures { IfOk result (λ part. part.items ≡ counter_part kvn counter tar body.now) }
+    ensures part { IfOk result (λ part. part.items ≡ counter_part kvn counter tar body.now) }
+    ensures length { IfOk result (λ part. length part.items ≡ 10 + length body.now) }
 {
     let number = counter.0.to_be_bytes();
     let mut part = Vec::with_capacity(alloc, FRONT as usize + body.len())?;

@@ -17,10 +17,10 @@ ghost use Rattle.card_store.specs.Store.{Shows, StandsFor, IsBeforeOrOpened, IsO
 use crate::card_lines::CardLine;
 use crate::issued_facts::IssuedFacts;
 use crate::kept::Kept;
+use crate::additions::{append_part, counter_need};
 use crate::openings::{OpenedStore, open_anew, open_log};
 use crate::parts::{command_batch, counter_batch};
 use crate::store_errors::StoreErr;
-use apdu_codec::count_commands;
 use disk_model::{DiskCalls, Image, SimCalls};
 use gate_log::{Batch, Log};
 use ota_core::{CardFacts, Counter, KeysetFacts, Tar};
@@ -30,11 +30,6 @@ use std::marker::Model;
 
 /// The greatest length of a store in octets.
 const LIMIT: u64 = 16_777_216;
-
-/// The octets that a counter needs beside its script, with its batch, and those that a command needs.
-const COUNTER_NEED: u64 = 19;
-
-const COMMAND_NEED: u64 = 10;
 
 /// The store of a card on a disk: each counter that the card used up, with its TAR and script, and each command that was
 /// run, durable before the next.
@@ -161,9 +156,7 @@ impl<D: DiskCalls> CardStore<D> {
         ensures cause { StoreCause (D.counts self.old.disk) (D.counts self.new.disk) result }
     {
         let length = self.log.length();
-        let need = COUNTER_NEED
-            + body.len() as u64
-            + COMMAND_NEED * u64::from(count_commands(body));
+        let need = counter_need(body);
         if length + need > LIMIT {
             return Err(StoreErr::Full { length, need });
         }
@@ -172,7 +165,7 @@ impl<D: DiskCalls> CardStore<D> {
         self.kept
             .store_counter(self.alloc, &self.facts, keyset, counter, tar, body)?;
         self.ready = false;
-        self.log.append(&mut self.disk, &batch)?;
+        append_part(&mut self.disk, &mut self.log, &batch)?;
         self.ready = true;
         Ok(())
     }
@@ -205,7 +198,7 @@ impl<D: DiskCalls> CardStore<D> {
     {
         let step = self.kept.run_command()?;
         self.ready = false;
-        self.log.append(&mut self.disk, &self.command)?;
+        append_part(&mut self.disk, &mut self.log, &self.command)?;
         self.ready = true;
         Ok(step)
     }
@@ -214,7 +207,7 @@ impl<D: DiskCalls> CardStore<D> {
     /// begins at 0.
     pub fn keyset(&self, kvn: u8) -> Option<&KeysetFacts>
         ensures keyset { option_copied result ≡ keyset_of self.now.facts self.now.shown.card kvn }
-        ensures range { IfSome result (λ _. (1 ≤ kvn) × (kvn ≤ 15)) }
+        ensures range { is_some (keyset_of self.now.facts self.now.shown.card kvn) ≡ true → (1 ≤ kvn) × (kvn ≤ 15) }
     {
         self.kept.keyset(&self.facts, kvn)
     }

@@ -1,0 +1,4 @@
+mod Keysets
+mod Lines
+mod Running
+mod StoreLaws
