@@ -1,12 +1,13 @@
 //! What a store keeps in memory of a card.
 
-ghost use Rattle.std.specs.Prelude.{find, reverse, ◌≡◌, ◌≤◌, ◌<◌, ◌^◌, ◌-◌, true, false, is_some, is_none, IfOk, IfSome, OnOk, OnErr, Some, None, length, option_copied, option_map, List};
+ghost use Rattle.std.specs.Prelude.{find, nat_lt, if◌then◌else◌, reverse, ◌≡◌, ◌≤◌, ◌<◌, ◌^◌, ◌-◌, true, false, is_some, is_none, IfOk, IfSome, OnOk, OnErr, Some, None, length, option_copied, option_map, List};
 ghost use Rattle.apdu_codec.specs.Reply.{answered};
 ghost use Rattle.apdu_codec.specs.Script.{IsBehind};
 ghost use Rattle.script_engine.specs.Step.{script_step};
-ghost use Rattle.card_store.specs.Content.{Content, issued, keyset_named, keyset_of, stored, took, left_of, with_last};
+ghost use Rattle.card_store.specs.Content.{Content, issued, keyset_named, keyset_of, may_store, stored, took, left_of, with_last};
 ghost use Rattle.card_store.specs.Kept.{IsLastWithin, IsRunning, IsTaken, IsStepTaken, HasAdvanced, begun_with, card_begun, one_more, keyset_if, is_line_of};
 ghost use Rattle.card_store.specs.Parts.StorePart.{UsesCounter, RunsCommand};
+ghost use Rattle.card_store.specs.PartsRead.{said_by};
 ghost use Rattle.ota_core.specs.declared.cards.CardFacts.{CardFacts};
 ghost use Rattle.card_store.specs.Store.{Shown, Shows};
 
@@ -175,9 +176,35 @@ impl Kept {
     {
         match part_in(part) {
             None => Ok(false),
-            Some(ReadPart::Counter(part)) => self.take_counter(alloc, facts, &part),
-            Some(ReadPart::Command) => self.take_command(),
+            Some(read) => self.take_read(alloc, facts, &read),
         }
+    }
+
+    /// Does what was read of a part. False where it can't follow, and then nothing is changed.
+    fn take_read(
+        &mut self,
+        alloc: Global,
+        facts: &IssuedFacts,
+        read: &ReadPart,
+    ) -> Result<bool, Memory>
+        ensures { (content : Content) → Shows content self.old → IfOk result (λ taken. IsStepTaken facts.now content (said_by read.now) taken self.new) }
+    {
+        match read {
+            ReadPart::Counter(part) => self.take_counter(alloc, facts, part),
+            ReadPart::Command => self.take_command(),
+        }
+    }
+
+    /// The keyset with this key version number, where the card has it and the counter is higher than the one that is stored.
+    fn keyset_for(&self, facts: &IssuedFacts, kvn: u8, counter: Counter) -> Option<KeysetId>
+        ensures keyset { (content : Content) → Shows content self.now → result ≡ (if may_store facts.now content kvn counter then Some (keyset_named facts.now kvn) else None) }
+        ensures card { IfSome result (λ keyset. keyset.card ≡ facts.now.card) }
+    {
+        let stored = self.counter(facts, kvn);
+        if !is_higher(counter, stored) {
+            return None;
+        }
+        self.named(facts, kvn)
     }
 
     /// Takes a counter, where the card has its keyset and it is higher than the one that is stored.
@@ -189,12 +216,9 @@ impl Kept {
     ) -> Result<bool, Memory>
         ensures { (content : Content) → Shows content self.old → IfOk result (λ taken. IsStepTaken facts.now content (UsesCounter part.now.kvn part.now.counter part.now.tar part.now.body.now) taken self.new) }
     {
-        match self.named(facts, part.kvn) {
+        match self.keyset_for(facts, part.kvn, part.counter) {
             None => Ok(false),
             Some(keyset) => {
-                if part.counter <= self.counter(facts, part.kvn) {
-                    return Ok(false);
-                }
                 self.store_counter(alloc, facts, keyset, part.counter, part.tar, part.body)?;
                 Ok(true)
             }
@@ -211,6 +235,12 @@ impl Kept {
         self.run_command()?;
         Ok(true)
     }
+}
+
+fn is_higher(counter: Counter, stored: Counter) -> bool
+    ensures { result ≡ nat_lt stored counter }
+{
+    stored.0 < counter.0
 }
 
 /// The script at its begin; none, where it isn't run or has no octets.
