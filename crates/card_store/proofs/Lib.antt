@@ -1,5 +1,6 @@
 mod Keysets
 mod Lines
+mod MakingLaws
 mod OpeningLaws
 mod Reading
 mod Running

@@ -1,16 +1,16 @@
 -- What an addition makes of a store.
-use Rattle.std.proofs.Common.{◌≡◌, ◌⊎◌, ℕ, true, Option, Some, List, [], ◌∷◌, ◌++◌, length, inl, inr, sym, ap, subst, ◌∙◌}
+use Rattle.std.proofs.Common.{◌≡◌, ◌⊎◌, ℕ, Bool, true, false, Option, Some, List, [], ◌∷◌, ◌++◌, length, inl, inr, sym, ap, subst, ◌∙◌}
 use Rattle.disk_model.specs.Disk.{Meaning, Tells, DiskRun, image_now}
 use Rattle.disk_model.specs.Runs.{weaker}
 use Rattle.gate_log.specs.Opening.{IsOpenLog}
 use Rattle.gate_log.specs.Reading.{parts_of, OpensTo}
 use Rattle.gate_log.specs.Reading.Reading.{Opened}
 use Rattle.ota_core.specs.declared.cards.CardFacts.{CardFacts}
-use Rattle.card_store.specs.Content.{Content}
+use Rattle.card_store.specs.Content.{Content, after_command}
 use Rattle.card_store.specs.Laws.{replayed_more}
 use Rattle.card_store.specs.Parts.{store_head}
-use Rattle.card_store.specs.Replay.{Holds, replayed, after_part}
-use Rattle.card_store.specs.Store.{StoreValue, IsKeptOn, StandsFor}
+use Rattle.card_store.specs.Replay.{Holds, HoldsAfterCommand, replayed, after_part}
+use Rattle.card_store.specs.Store.{Shown, Shows, StoreValue, IsKeptOn, StandsFor}
 
 module _ {D B C : Type 0} (told : Meaning D B C) where
   -- a disk whose images are among those that it had
@@ -50,3 +50,28 @@ module _ {D B C : Type 0} (told : Meaning D B C) where
         → IsKeptOn told new facts len_now next
     appended_kept len_now open_log adds =
         record { open_log = open_log; parts = kept.parts ++ batch; opens = adds store_head kept.parts kept.opens; replays = with_part }
+
+  -- ---- stores
+
+  -- a store that isn't ready stands for the card that it lends
+  pub stands_unready : (disk : D) (facts : CardFacts) (shown : Shown) (len : ℕ) (content : Content) → Shows content shown
+      → StandsFor told (record { disk = disk; facts = facts; shown = shown; length = len; ready = false }) content
+  stands_unready disk facts shown len content shows = record { shows = shows; kept = λ ready tells. absurd cc }
+
+  -- a store whose disk keeps what it lends
+  pub stands_next : (old new : D) (facts : CardFacts) (shown after : Shown) (len len_now : ℕ) (ready : Bool) (content next : Content) → ready ≡ true → told.tells new ≡ told.tells old
+      → StandsFor told (record { disk = old; facts = facts; shown = shown; length = len; ready = ready }) content → Shows next after
+      → (Tells told old → IsKeptOn told old facts len content → IsKeptOn told new facts len_now next)
+      → StandsFor told (record { disk = new; facts = facts; shown = after; length = len_now; ready = true }) next
+  stands_next old new facts shown after len len_now ready content next is same stands shows keeps =
+      record { shows = shows; kept = λ now tells. keeps (sym same ∙ tells) (stands.kept is (sym same ∙ tells)) }
+
+  -- what lies behind a command is the card behind it
+  pub run_after_command : (old new : D) (facts : CardFacts) (content next : Content) → after_command content ≡ Some next → DiskRun told old new (λ image. Holds facts content image ⊎ Holds facts next image)
+      → DiskRun told old new (λ image. Holds facts content image ⊎ HoldsAfterCommand facts content image)
+  run_after_command old new facts content next is run =
+      weaker told old new (λ image. Holds facts content image ⊎ Holds facts next image) (λ image. Holds facts content image ⊎ HoldsAfterCommand facts content image) run at
+    where
+      at : (image : List ℕ) → Holds facts content image ⊎ Holds facts next image → Holds facts content image ⊎ HoldsAfterCommand facts content image
+      at image (inl before) = inl before
+      at image (inr behind) = inr (next, is, behind)
