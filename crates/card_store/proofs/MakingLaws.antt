@@ -148,15 +148,15 @@ either_cut : (old mid new : List ℕ) → IsMadeOrStood old mid → IsCutAtMost 
 either_cut old mid new (inl (none, is)) cut = made_cut old new none (subst (λ (m : List ℕ). IsCutAtMost m new) is cut)
 either_cut old mid new (inr (made, is)) cut = stood_cut old new (subst (λ (m : List ℕ). IsCutAtMost m new) is cut)
 
-pub either_left : {T U : Type 0} (old mid new : List ℕ) (error : LogErr) → IsMadeOrStood old mid → UnlessLogFault {T = T} (Err error) (IsCutAtMost mid new)
+pub either_left : (T U : Type 0) (old mid new : List ℕ) (error : LogErr) → IsMadeOrStood old mid → UnlessLogFault {T = T} (Err error) (IsCutAtMost mid new)
     → UnlessFault {T = U} (Err (store_error_of error)) (IsLeftByRefusal old new)
-either_left old mid new log_err.Memory which cut = either_cut old mid new which cut
-either_left old mid new (log_err.DiskFault fault) which cut = tt
-either_left old mid new log_err.Unformatted which cut = either_cut old mid new which cut
-either_left old mid new log_err.NotALog which cut = either_cut old mid new which cut
-either_left old mid new (log_err.OtherHead rest) which cut = either_cut old mid new which cut
-either_left old mid new (log_err.Damaged number) which cut = either_cut old mid new which cut
-either_left old mid new (log_err.Full length need) which cut = either_cut old mid new which cut
+either_left T U old mid new log_err.Memory which cut = either_cut old mid new which cut
+either_left T U old mid new (log_err.DiskFault fault) which cut = tt
+either_left T U old mid new log_err.Unformatted which cut = either_cut old mid new which cut
+either_left T U old mid new log_err.NotALog which cut = either_cut old mid new which cut
+either_left T U old mid new (log_err.OtherHead rest) which cut = either_cut old mid new which cut
+either_left T U old mid new (log_err.Damaged number) which cut = either_cut old mid new which cut
+either_left T U old mid new (log_err.Full size need) which cut = either_cut old mid new which cut
 
 module _ {D B C : Type 0} (told : Meaning D B C) where
   -- the moments of the making and of the opening

@@ -8,7 +8,7 @@ use Rattle.script_engine.specs.declared.card.CardState.{CardState}
 use Rattle.card_store.specs.Content.{Content, keyset_named, keyset_of, stored, may_store, took}
 use Rattle.card_store.specs.Kept.{IsTaken, IsStepTaken, keyset_if}
 use Rattle.card_store.specs.Laws.{replayed_more}
-use Rattle.card_store.specs.Opening.{IsReplayed, IsReplayedSoFar}
+use Rattle.card_store.specs.Opening.{IsShown, IsReplayed}
 use Rattle.card_store.specs.Parts.{StorePart, part_in}
 use Rattle.card_store.specs.Parts.StorePart.{UsesCounter}
 use Rattle.card_store.specs.Replay.{after_part, after_step, replayed, StopsAt}
@@ -111,3 +111,8 @@ stops_on facts parts number part stops = record {
   bad = stops.bad;
   place = stops.place;
 }
+
+-- what is kept is a card's still
+pub shown_on : (facts : CardFacts) (part : List ℕ) (new : Shown) (taken : Bool) (content : Content) → IsTaken facts content part taken new → IsShown new
+shown_on facts part new true content is = (is.0, is.2)
+shown_on facts part new false content is = (content, is.1)

@@ -16,6 +16,10 @@ use Rattle.card_store.specs.Parts.{store_head}
 use Rattle.card_store.specs.Replay.{replayed, StopsAt, IsContentOf, IsDamagedAt}
 use Rattle.card_store.specs.Store.{Shown, Shows, IsLeft, StoreRefuses}
 
+-- what is kept is some card's
+abbrev pub IsShown : Shown → Type 0
+IsShown shown = (content : Content) × Shows content shown
+
 -- the parts are those of the card that is kept
 pub record IsReplayed (facts : CardFacts) (parts : List (List ℕ)) (shown : Shown) : Type 0 where
   pub content : Content

@@ -1,8 +1,8 @@
 //! How parts are added to a store's log.
 
-ghost use Rattle.std.specs.Prelude.{◌≡◌, ◌⊎◌, ℕ, ◌+◌, ◌≤◌, ◌<◌, ◌^◌, List, [], ◌∷◌, length, Some, IfErr, OnOk, OnErr};
+ghost use Rattle.std.specs.Prelude.{nat_le, ◌≡◌, ◌⊎◌, ℕ, ◌+◌, ◌≤◌, ◌<◌, ◌^◌, List, [], ◌∷◌, length, Some, IfErr, OnOk, OnErr};
 ghost use Rattle.disk_model.specs.Disk.{Tells, DiskRun};
-ghost use Rattle.gate_log.specs.Opening.{IsOpenLog, LIMIT, need_of};
+ghost use Rattle.gate_log.specs.Opening.{IsOpenLog, LIMIT as MOST, need_of};
 ghost use Rattle.ota_core.specs.declared.cards.CardFacts.{CardFacts};
 ghost use Rattle.card_store.specs.Content.{Content};
 ghost use Rattle.card_store.specs.Replay.{Holds, after_part};
@@ -12,6 +12,9 @@ use crate::store_errors::StoreErr;
 use apdu_codec::count_commands;
 use disk_model::DiskCalls;
 use gate_log::{Batch, Log};
+
+/// The greatest length of a store in octets.
+const LIMIT: u64 = 16_777_216;
 
 /// The octets that a counter needs beside its script, with its batch, and those that a command needs.
 const COUNTER_NEED: u64 = 19;
@@ -27,10 +30,17 @@ pub fn counter_need(body: &[u8]) -> u64
     COUNTER_NEED + body.len() as u64 + COMMAND_NEED * u64::from(count_commands(body))
 }
 
+/// Whether so many octets have room behind a log of this length.
+pub fn has_room(len: u64, need: u64) -> bool
+    ensures { result ≡ nat_le (len + need) MOST }
+{
+    len <= LIMIT && need <= LIMIT - len
+}
+
 /// Adds one part to the log, for which there is room.
 pub fn append_part<D: DiskCalls>(disk: &mut D, log: &mut Log, batch: &Batch) -> Result<(), StoreErr>
     requires one { length batch.now.parts ≡ 1 }
-    requires fits { log.old + need_of batch.now.parts ≤ LIMIT }
+    requires fits { log.old + need_of batch.now.parts ≤ MOST }
     requires settled { Tells D.told disk.old → IsOpenLog D.told disk.old log.old }
     ensures moments { Tells D.told disk.old → (facts : CardFacts) (content next : Content) (part : List ℕ) → batch.now.parts ≡ part ∷ []
         → IsKeptOn D.told disk.old facts log.old content → after_part facts content part ≡ Some next

@@ -7,7 +7,7 @@ ghost use Rattle.gate_log.specs.Opening.{IsOpenLog, OpensAlike};
 ghost use Rattle.gate_log.specs.Reading.{parts_of};
 ghost use Rattle.gate_log.specs.Readers.{has_ended, IsReading};
 ghost use Rattle.card_store.specs.Parts.{command_part, store_head};
-ghost use Rattle.card_store.specs.Opening.{opened_in, IsReplayedSoFar, IsReplayedThrough, ReplayAnswer, ReadAnswer, IsCutAtMost, checked, first_bad};
+ghost use Rattle.card_store.specs.Opening.{opened_in, IsShown, IsReplayedSoFar, IsReplayedThrough, ReplayAnswer, ReadAnswer, IsCutAtMost, checked, first_bad};
 ghost use Rattle.card_store.specs.Store.{IsBeforeOrOpened, StoreCause, UnlessFault, IsLeftByRefusal, IsNotFull};
 
 use crate::issued_facts::IssuedFacts;
@@ -50,6 +50,7 @@ pub fn open_anew<D: DiskCalls>(
     ensures made { IfOk result (λ anew. (anew.facts ≡ facts.now) × (anew.command.parts ≡ command_part ∷ [])) }
     ensures answer { Tells D.told disk.old → ReplayAnswer facts.now (D.told.seen disk.old) (D.told.seen disk.new) (opened_in result) }
     ensures settled { Tells D.told disk.old → IfOk result (λ anew. IsOpenLog D.told disk.new anew.opened.log) }
+    ensures shown { IfOk result (λ anew. IsShown anew.opened.kept) }
     ensures refused { Tells D.told disk.old → OnErr result (UnlessFault result (IsLeftByRefusal (D.told.seen disk.old) (D.told.seen disk.new))) }
     ensures moments { Tells D.told disk.old → DiskRun D.told disk.old disk.new (IsBeforeOrOpened D.told disk.old) }
     ensures tells { D.told.tells disk.new ≡ D.told.tells disk.old }
@@ -74,6 +75,7 @@ pub fn open_log<D: DiskCalls>(
 ) -> Result<OpenedStore, StoreErr>
     ensures answer { Tells D.told disk.old → ReplayAnswer facts.now (D.told.seen disk.old) (D.told.seen disk.new) result }
     ensures settled { Tells D.told disk.old → IfOk result (λ opened. IsOpenLog D.told disk.new opened.log) }
+    ensures shown { IfOk result (λ opened. IsShown opened.kept) }
     ensures refused { Tells D.told disk.old → OnErr result (UnlessFault result (IsLeftByRefusal (D.told.seen disk.old) (D.told.seen disk.new))) }
     ensures moments { Tells D.told disk.old → DiskRun D.told disk.old disk.new (IsBeforeOrOpened D.told disk.old) }
     ensures tells { D.told.tells disk.new ≡ D.told.tells disk.old }
@@ -96,6 +98,7 @@ fn read_log<D: DiskCalls>(
 ) -> Result<OpenedStore, LogErr>
     ensures answer { Tells D.told disk.old → ReadAnswer facts.now (D.told.seen disk.old) (D.told.seen disk.new) result }
     ensures settled { Tells D.told disk.old → IfOk result (λ opened. IsOpenLog D.told disk.new opened.log) }
+    ensures shown { IfOk result (λ opened. IsShown opened.kept) }
     ensures refused { Tells D.told disk.old → OnErr result (UnlessLogFault result (IsCutAtMost (D.told.seen disk.old) (D.told.seen disk.new))) }
     ensures moments { Tells D.told disk.old → DiskRun D.told disk.old disk.new (λ image. image_now D.told disk.old image ⊎ OpensAlike store_head (D.told.seen disk.old) image) }
     ensures tells { D.told.tells disk.new ≡ D.told.tells disk.old }
@@ -147,6 +150,7 @@ fn replay<D: DiskCalls>(
 ) -> Result<Replayed, LogErr>
     ensures read { Tells D.told disk.old → (head : List ℕ) → IsReading head (D.told.seen disk.old) [] reader.old
         → IfOk result (IsReplayedThrough head (D.told.seen disk.old) facts.now reader.new) }
+    ensures shown { IfOk result (λ replayed. IsShown replayed.kept) }
     ensures ended { OnOk result (has_ended reader.new ≡ true) }
     ensures content { Tells D.told disk.old → UnlessLogFault result (D.told.seen disk.new ≡ D.told.seen disk.old) }
     ensures moments { Tells D.told disk.old → DiskRun D.told disk.old disk.new (image_now D.told disk.old) }
@@ -171,8 +175,10 @@ fn take_part(
     part: &[u8],
     number: u64,
 ) -> Result<Option<u64>, Memory>
-    ensures { (parts : List (List ℕ)) → IsReplayedSoFar facts.now parts kept.old bad → number ≡ length parts + 1
+    requires { IsShown kept.old }
+    ensures replayed { (parts : List (List ℕ)) → IsReplayedSoFar facts.now parts kept.old bad → number ≡ length parts + 1
         → IfOk result (IsReplayedSoFar facts.now (parts ++ part.now ∷ []) kept.new) }
+    ensures shown { OnOk result (IsShown kept.new) }
 {
     match bad {
         Some(first) => Ok(Some(first)),

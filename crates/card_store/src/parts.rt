@@ -1,6 +1,7 @@
 //! The parts of a card's store: how they are read and written.
 
-ghost use Rattle.std.specs.Prelude.{◌+◌, ◌≡◌, ◌≤◌, [], ◌∷◌, length, IfOk, option_map};
+ghost use Rattle.std.specs.Prelude.{◌+◌, ◌^◌, ◌<◌, ◌≡◌, ◌≤◌, [], ◌∷◌, length, IfOk, option_map};
+ghost use Rattle.gate_log.specs.Opening.{need_of};
 ghost use Rattle.card_store.specs.Parts.{counter_part, command_part, part_in};
 ghost use Rattle.card_store.specs.PartsRead.{said_by};
 
@@ -71,7 +72,9 @@ pub fn counter_batch(
     body: &[u8],
 ) -> Result<Batch, Memory>
     requires { length body.now ≤ 34168 }
-    ensures { IfOk result (λ batch. batch.parts ≡ counter_part kvn counter tar body.now ∷ []) }
+    ensures part { IfOk result (λ batch. batch.parts ≡ counter_part kvn counter tar body.now ∷ []) }
+    ensures need { IfOk result (λ batch. need_of batch.parts ≡ 19 + length body.now) }
+    ensures ranges { IfOk result (λ _. (counter < 2 ^ 40) × (length tar ≡ 3)) }
 {
     let part = counter_part(alloc, kvn, counter, tar, body)?;
     let mut batch = Batch::room(alloc, 1, FRONT + body.len() as u32)?;
@@ -100,6 +103,7 @@ fn counter_part(
     requires { length body.now ≤ 34168 }
     ensures part { IfOk result (λ part. part.items ≡ counter_part kvn counter tar body.now) }
     ensures length { IfOk result (λ part. length part.items ≡ 10 + length body.now) }
+    ensures ranges { IfOk result (λ _. (counter < 2 ^ 40) × (length tar ≡ 3)) }
 {
     let number = counter.0.to_be_bytes();
     let mut part = Vec::with_capacity(alloc, FRONT as usize + body.len())?;

@@ -17,7 +17,7 @@ ghost use Rattle.card_store.specs.Store.{Shows, StandsFor, IsBeforeOrOpened, IsO
 use crate::card_lines::CardLine;
 use crate::issued_facts::IssuedFacts;
 use crate::kept::Kept;
-use crate::additions::{append_part, counter_need};
+use crate::additions::{append_part, counter_need, has_room};
 use crate::openings::{OpenedStore, open_anew, open_log};
 use crate::parts::{command_batch, counter_batch};
 use crate::store_errors::StoreErr;
@@ -27,9 +27,6 @@ use ota_core::{CardFacts, Counter, KeysetFacts, Tar};
 use script_engine::{CardState, Step};
 use std::alloc::Global;
 use std::marker::Model;
-
-/// The greatest length of a store in octets.
-const LIMIT: u64 = 16_777_216;
 
 /// The store of a card on a disk: each counter that the card used up, with its TAR and script, and each command that was
 /// run, durable before the next.
@@ -157,7 +154,7 @@ impl<D: DiskCalls> CardStore<D> {
     {
         let length = self.log.length();
         let need = counter_need(body);
-        if length + need > LIMIT {
+        if !has_room(length, need) {
             return Err(StoreErr::Full { length, need });
         }
         let batch = counter_batch(self.alloc, kvn, counter, tar, body)?;

@@ -1,5 +1,6 @@
 use Rattle.std.proofs.Common.{◌≡◌, Err, sym, ◌∙◌}
 use Rattle.std.proofs.lemmas.Result.{err_from_is_err_and}
+use Rattle.card_store.specs.declared.openings.OpenedStore.{OpenedStore}
 use Rattle.card_store.proofs.MakingLaws.{either_opened, either_refused, either_left, either_run}
 use Rattle.card_store.proofs.openings.open_log.Goals as goal
 
@@ -15,7 +16,7 @@ returns-in_err-opened-clause-refused g c = λ tells.
     let told = g.D.DiskCalls.told in
     let p = err_from_is_err_and c.from_residual-in_err-opened.result c.from_residual-in_err-opened.ensures.1 in
     rw (p.1, p.2)
-    (either_left (told.seen c.args.disk.now) (told.seen c.format.new.disk) (told.seen c.read_log.new.disk) c.in_err-opened.field-0.0 (c.in_ok-format.ensures.answer tells)
+    (either_left OpenedStore OpenedStore (told.seen c.args.disk.now) (told.seen c.format.new.disk) (told.seen c.read_log.new.disk) c.in_err-opened.field-0.0 (c.in_ok-format.ensures.answer tells)
     (c.in_err-opened.ensures.refused (c.in_ok-format.ensures.tells ∙ tells)))
 
 pub returns-in_err-opened-clause-moments : goal.returns-in_err-opened-clause-moments
