@@ -53,7 +53,7 @@ pub found_counter : (keyset : Keyset) (lines : List Line) → first_some (counte
 found_counter keyset [] = refl
 found_counter keyset (line ∷ lines) =
     elim (is_same_keyset line.keyset keyset) as (λ b. option_or (cond b (Some line.counter) None) (first_some (counter_of keyset) lines)
-        ≡ option_map (λ (l : CardLine). l.counter) (cond b (Some (card_line line)) (find (is_line_of keyset) (map card_line lines)))) [
+    ≡ option_map (λ (l : CardLine). l.counter) (cond b (Some (card_line line)) (find (is_line_of keyset) (map card_line lines)))) [
       | true ↦ refl
       | false ↦ found_counter keyset lines
     ]

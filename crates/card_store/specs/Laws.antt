@@ -32,7 +32,7 @@ replayed_more_from facts start content [] part is = last (after_part facts start
     some_same a b e = cc
 replayed_more_from facts start content (first ∷ parts) part is =
     elim (after_part facts start first) as (λ next. option_and_then (λ (c : Content). replayed_from facts c parts) next ≡ Some content
-        → option_and_then (λ (c : Content). replayed_from facts c (parts ++ part ∷ [])) next ≡ after_part facts content part) [
+    → option_and_then (λ (c : Content). replayed_from facts c (parts ++ part ∷ [])) next ≡ after_part facts content part) [
       | None ↦ λ e. cc
       | Some next ↦ λ e. replayed_more_from facts next content parts part e
     ] is
@@ -98,10 +98,12 @@ module _ (facts : CardFacts) (content : Content) (kvn counter : ℕ) (tar body :
 
   line_on : (count at : ℕ) (last made : Answer CardState) (next : Option ℕ)
       → executed_one made next (ran_line facts kvn counter tar body (record { count = count; next = Some at; last = last }))
-          ≡ ran_line facts kvn counter tar body (record { count = suc count; next = next; last = made })
+      ≡ ran_line facts kvn counter tar body (record { count = suc count; next = next; last = made })
   line_on count at last made next =
       ap (λ (k : ℕ). record (ran_line facts kvn counter tar body (record { count = count; next = Some at; last = last })) {
-        executed = k; finished = is_none next; answer = response_if_ended next k made;
+        executed = k;
+        finished = is_none next;
+        answer = response_if_ended next k made;
       }) (add-one count)
 
   come_on : (part : Part) (count : ℕ) (next : Option ℕ) (last : Answer CardState) (script : Script) → left_of part body next ≡ Some script

@@ -78,11 +78,7 @@ impl IssuedFacts {
     pub fn kvns(&self, alloc: Global) -> Result<Vec<u8>, Memory>
         ensures { IfOk result (λ kvns. kvns.items ≡ map (λ keyset. keyset.0) self.now.keysets) }
     {
-        let kvns = self
-            .keysets
-            .iter()
-            .map(|keyset| keyset.0)
-            .collect(alloc)?;
+        let kvns = self.keysets.iter().map(|keyset| keyset.0).collect(alloc)?;
         Ok(kvns)
     }
 

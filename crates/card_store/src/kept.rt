@@ -302,8 +302,5 @@ fn add_command(lines: &mut Vec<CardLine>, ended: bool)
 fn last_line(lines: &[CardLine], card: CardId, kvn: u8) -> Option<&CardLine>
     ensures { option_copied result ≡ find (is_line_of (record { card = card; kvn = kvn })) (reverse lines.now) }
 {
-    lines
-        .iter()
-        .rev()
-        .find(|line| line.keyset.card.0 == card.0 && line.keyset.kvn == kvn)
+    lines.iter().rev().find(|line| line.keyset.card.0 == card.0 && line.keyset.kvn == kvn)
 }

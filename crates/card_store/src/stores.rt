@@ -14,10 +14,10 @@ ghost use Rattle.card_store.specs.Parts.{store_head};
 ghost use Rattle.card_store.specs.Replay.{Holds, IsAfterCommand, HoldsAfterCommand};
 ghost use Rattle.card_store.specs.Store.{Shows, StandsFor, IsBeforeOrOpened, IsOpenedStore, StoreRefuses, IsLeftByRefusal, disk_in, error_in, CounterAnswer, HasRoom, IsWantOrFault, IfWritten, UnlessWritten, OnFault, IsNotFull, AddTicks, StoreCause, UnlessFault};
 
+use crate::additions::{append_part, counter_need, has_room};
 use crate::card_lines::CardLine;
 use crate::issued_facts::IssuedFacts;
 use crate::kept::Kept;
-use crate::additions::{append_part, counter_need, has_room};
 use crate::openings::{OpenedStore, open_anew, open_log};
 use crate::parts::{command_batch, counter_batch};
 use crate::store_errors::StoreErr;

@@ -28,10 +28,10 @@ returns-in_err-append_part-clause-moments g c =
     subst (λ s. Tells told s.disk → (content : Content) → StandsFor told s content → DiskRun told s.disk c.append_part.new.disk (λ image. Holds s.facts content image ⊎ HoldsAfterCommand s.facts content image))
     c.self.view_is
     (λ tells content stands.
-        let ran = c.in_ok-step.ensures.ran content stands.shows in
-        let ready = ap (λ s. s.ready) c.self.view_is ∙ c.requires.ready in
-        run_after_command told c.self.inside.disk c.append_part.new.disk c.self.inside.facts content ran.0 ran.1
-        (c.append_part.ensures.moments tells c.self.inside.facts content ran.0 command_part c.self.invariant.0 (stands.kept ready tells) (after_command_part c.self.inside.facts content ∙ ran.1)))
+    let ran = c.in_ok-step.ensures.ran content stands.shows in
+    let ready = ap (λ s. s.ready) c.self.view_is ∙ c.requires.ready in
+    run_after_command told c.self.inside.disk c.append_part.new.disk c.self.inside.facts content ran.0 ran.1
+    (c.append_part.ensures.moments tells c.self.inside.facts content ran.0 command_part c.self.invariant.0 (stands.kept ready tells) (after_command_part c.self.inside.facts content ∙ ran.1)))
 
 pub invariant_of-self-2 : goal.invariant_of-self-2
 invariant_of-self-2 g c =
@@ -71,7 +71,7 @@ returns-clause-moments g c =
     subst (λ s. Tells told s.disk → (content : Content) → StandsFor told s content → DiskRun told s.disk c.append_part.new.disk (λ image. Holds s.facts content image ⊎ HoldsAfterCommand s.facts content image))
     c.self.view_is
     (λ tells content stands.
-        let ran = c.in_ok-step.ensures.ran content stands.shows in
-        let ready = ap (λ s. s.ready) c.self.view_is ∙ c.requires.ready in
-        run_after_command told c.self.inside.disk c.append_part.new.disk c.self.inside.facts content ran.0 ran.1
-        (c.append_part.ensures.moments tells c.self.inside.facts content ran.0 command_part c.self.invariant.0 (stands.kept ready tells) (after_command_part c.self.inside.facts content ∙ ran.1)))
+    let ran = c.in_ok-step.ensures.ran content stands.shows in
+    let ready = ap (λ s. s.ready) c.self.view_is ∙ c.requires.ready in
+    run_after_command told c.self.inside.disk c.append_part.new.disk c.self.inside.facts content ran.0 ran.1
+    (c.append_part.ensures.moments tells c.self.inside.facts content ran.0 command_part c.self.invariant.0 (stands.kept ready tells) (after_command_part c.self.inside.facts content ∙ ran.1)))
