@@ -1,0 +1,9 @@
+pub mod Content
+pub mod Kept
+pub mod Laws
+pub mod Opening
+pub mod Parts
+pub mod PartsRead
+pub mod Refusals
+pub mod Replay
+pub mod Store

@@ -1,0 +1,16 @@
+//! The store of a card: its counters, and the commands that it ran, each durable before the next.
+#![tactic(auto)]
+
+mod additions;
+mod card_lines;
+mod issued_facts;
+mod kept;
+mod openings;
+mod parts;
+mod scripts;
+mod store_errors;
+mod stores;
+
+pub use card_lines::CardLine;
+pub use store_errors::StoreErr;
+pub use stores::CardStore;
