@@ -7,3 +7,7 @@ pub mod Jobs
 pub mod NarrowPlan
 pub mod NarrowJobs
 pub mod RowCells
+pub mod Check
+pub mod FieldValue
+pub mod PlanTable
+pub mod JobRows

@@ -39,7 +39,7 @@ card_with card kvn kic kid =
 
 -- the plan of this one card
 abbrev pub plan_with : ℕ → ℕ → ℕ → List ℕ → List ℕ → Plan
-plan_with campaign card kvn kic kid = record { campaign = campaign; cards = card_with card kvn kic kid ∷ [] }
+plan_with campaign card kvn kic kid = record { campaign = campaign; cards = card_with card kvn kic kid ∷ []; later = [] }
 
 -- a key in double quotes
 abbrev pub quoted : List ℕ → List ℕ

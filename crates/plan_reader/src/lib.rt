@@ -5,6 +5,7 @@
 #![tactic(auto)]
 
 mod columns;
+mod field_values;
 mod hexadecimals;
 mod job_lists;
 mod narrow_jobs;
@@ -13,11 +14,13 @@ mod numbers;
 mod plans;
 mod tables;
 #[cfg(test)]
-mod tests;
+mod narrow_tests;
 mod texts;
 
 pub use columns::Column;
-pub use job_lists::{JobsErr, read_jobs};
+pub use job_lists::JobsErr;
+pub use narrow_jobs::read_narrow_jobs;
+pub use narrow_plan::read_narrow_plan;
 pub use numbers::number;
-pub use plans::{CardList, Plan, PlanErr, read_plan};
+pub use plans::{CardList, LaterList, Plan, PlanErr};
 pub use tables::{Field, Table};

@@ -1,11 +1,12 @@
 //! The narrow form of a list of jobs: a header line and at most 100 rows, without quotes.
 
-ghost use Rattle.std.specs.Prelude.{◌≡◌, ◌≤◌, Some, option_map, IfSome, IfOk, IfErr};
+ghost use Rattle.std.specs.Prelude.{◌≡◌, ◌≤◌, List, Some, option_map, IsTrue, IfSome, IfOk, IfErr};
+ghost use Rattle.ota_core.specs.declared.jobs.Job.{Job};
 ghost use Rattle.ota_core.specs.KeysetList.{has_kvn};
 ghost use Rattle.plan_reader.specs.Plan.{has_keyset, is_keyset_of};
-ghost use Rattle.plan_reader.specs.Jobs.{JobsErrComes, are_distinct, has_job};
+ghost use Rattle.plan_reader.specs.Jobs.{JobsErrComes, AreJobsOf, are_distinct, has_job};
 ghost use Rattle.plan_reader.specs.RowCells.{cells_said};
-ghost use Rattle.plan_reader.specs.NarrowJobs.{number_cell, numbers_in_row, tar_cell, cells_of, job_of, is_script_length, script_of, rows_of, jobs_of};
+ghost use Rattle.plan_reader.specs.NarrowJobs.{number_cell, numbers_in_row, tar_cell, cells_of, job_of, is_script_length, script_of, rows_of, jobs_of, IsJobsText};
 
 use crate::columns::Column;
 use crate::hexadecimals::read_octets;
@@ -42,9 +43,21 @@ struct Cells<'a> {
     rest: &'a [u8],
 }
 
+/// Reads a list of jobs of this form for a plan. It is refused exactly where the octets have no reading.
+pub fn read_narrow_jobs(alloc: Global, octets: &[u8], plan: &Plan) -> Result<Vec<Job>, JobsErr>
+    ensures ok { IfOk result (λ jobs. jobs_of plan.now octets.now ≡ Some jobs.items) }
+    ensures err { IfErr result (λ err. JobsErrComes (jobs_of plan.now octets.now) err) }
+    ensures read { IfOk result (λ jobs. IsJobsText plan.now jobs.items octets.now) }
+    ensures spelled { (jobs : List Job) → IsJobsText plan.now jobs octets.now → jobs_of plan.now octets.now ≡ Some jobs }
+    ensures distinct { IfOk result (λ jobs. IsTrue (are_distinct jobs.items)) }
+    ensures allowed { IfOk result (λ jobs. AreJobsOf plan.now jobs.items) }
+{
+    narrow_jobs(alloc, octets, plan)
+}
+
 /// Reads a list of jobs of this form.
 #[tactic(auto, unfolding(crate::specs::NarrowJobs::jobs_of))]
-pub(crate) fn narrow_jobs(alloc: Global, octets: &[u8], plan: &Plan) -> Result<Vec<Job>, JobsErr>
+fn narrow_jobs(alloc: Global, octets: &[u8], plan: &Plan) -> Result<Vec<Job>, JobsErr>
     ensures ok { IfOk result (λ jobs. jobs_of plan.now octets.now ≡ Some jobs.items) }
     ensures err { IfErr result (λ err. JobsErrComes (jobs_of plan.now octets.now) err) }
 {

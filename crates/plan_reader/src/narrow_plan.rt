@@ -2,11 +2,12 @@
 
 ghost use Rattle.std.specs.Prelude.{◌≡◌, ◌==◌, ◌&&◌, ◌≤◌, nat_lt, Some, option_map, IfSome, IfOk, IfErr};
 ghost use Rattle.plan_reader.specs.Plan.{PlanErrComes};
-ghost use Rattle.plan_reader.specs.NarrowPlan.{number_behind, key_behind, numbers_of, keys_of, plan_of, plan_with};
+ghost use Rattle.plan_reader.specs.NarrowPlan.{number_behind, key_behind, numbers_of, keys_of, plan_of, plan_with, IsPlanText};
+ghost use Rattle.plan_reader.specs.declared.plans.Plan.{Plan};
 
 use crate::hexadecimals::read_octets;
 use crate::numbers::plain_number;
-use crate::plans::{CardList, Plan, PlanErr};
+use crate::plans::{CardList, LaterList, Plan, PlanErr};
 use crate::tables::{Field, Table};
 use crate::texts::{behind, cut_at};
 use ota_core::{CardFacts, CardId, Counter, KeyBytes, KeysetFacts, KeysetList, Memory, Mode, Tar};
@@ -32,8 +33,18 @@ struct Fields {
     kid: [u8; 16],
 }
 
+/// Reads a plan of this form. It is refused exactly where the octets have no reading.
+pub fn read_narrow_plan(alloc: Global, octets: &[u8]) -> Result<Plan, PlanErr>
+    ensures ok { IfOk result (λ plan. plan_of octets.now ≡ Some plan) }
+    ensures err { IfErr result (λ err. PlanErrComes (plan_of octets.now) err) }
+    ensures read { IfOk result (λ plan. IsPlanText plan octets.now) }
+    ensures spelled { (plan : Plan) → IsPlanText plan octets.now → plan_of octets.now ≡ Some plan }
+{
+    narrow_plan(alloc, octets)
+}
+
 /// Reads a plan of this form.
-pub(crate) fn narrow_plan(alloc: Global, octets: &[u8]) -> Result<Plan, PlanErr>
+fn narrow_plan(alloc: Global, octets: &[u8]) -> Result<Plan, PlanErr>
     ensures ok { IfOk result (λ plan. plan_of octets.now ≡ Some plan) }
     ensures err { IfErr result (λ err. PlanErrComes (plan_of octets.now) err) }
 {
@@ -71,6 +82,7 @@ fn make_plan(alloc: Global, fields: &Fields) -> Result<Plan, Memory>
     Ok(Plan {
         campaign: fields.campaign,
         cards,
+        later: LaterList::new(alloc),
     })
 }
 

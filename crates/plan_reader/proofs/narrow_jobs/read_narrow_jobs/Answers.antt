@@ -1,6 +1,6 @@
 use Rattle.std.proofs.lemmas.Result.{IfOk-weaker}
 use Rattle.plan_reader.proofs.JobsLaws.{jobs_of-spelled, jobs_of-reads, AreJobsOf-rows}
-use Rattle.plan_reader.proofs.job_lists.read_jobs.Goals as goal
+use Rattle.plan_reader.proofs.narrow_jobs.read_narrow_jobs.Goals as goal
 
 pub returns-clause-read : goal.returns-clause-read
 returns-clause-read c =

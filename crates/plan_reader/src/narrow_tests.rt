@@ -41,14 +41,14 @@ fn plan_text(alloc: Global, place: usize, line: &str) -> Result<String, AllocErr
 }
 
 fn is_refused_plan(alloc: Global, text: &str) -> bool {
-    match read_plan(alloc, text.as_bytes()) {
+    match read_narrow_plan(alloc, text.as_bytes()) {
         Ok(_) => false,
         Err(err) => err == PlanErr::Refused(Table::Top, 0, Field::Text),
     }
 }
 
 fn is_refused(alloc: Global, text: &str, plan: &Plan) -> bool {
-    match read_jobs(alloc, text.as_bytes(), plan) {
+    match read_narrow_jobs(alloc, text.as_bytes(), plan) {
         Ok(_) => false,
         Err(err) => err == JobsErr::Refused(0, Column::Header),
     }
@@ -56,7 +56,7 @@ fn is_refused(alloc: Global, text: &str, plan: &Plan) -> bool {
 
 #[test]
 fn plan_is_read(rt: HostRuntime) -> Result<(), Fail> {
-    let plan = read_plan(rt.alloc(), plan_text(rt.alloc(), 0, "")?.as_bytes())?;
+    let plan = read_narrow_plan(rt.alloc(), plan_text(rt.alloc(), 0, "")?.as_bytes())?;
     assert_eq!(rt; plan.campaign, 7);
     let cards = plan.cards.as_slice();
     assert_eq!(rt; cards.len(), 1);
@@ -79,8 +79,8 @@ fn plan_is_read(rt: HostRuntime) -> Result<(), Fail> {
 
 #[test]
 fn jobs_are_read(rt: HostRuntime) -> Result<(), Fail> {
-    let plan = read_plan(rt.alloc(), plan_text(rt.alloc(), 0, "")?.as_bytes())?;
-    let jobs = read_jobs(rt.alloc(), JOBS.as_bytes(), &plan)?;
+    let plan = read_narrow_plan(rt.alloc(), plan_text(rt.alloc(), 0, "")?.as_bytes())?;
+    let jobs = read_narrow_jobs(rt.alloc(), JOBS.as_bytes(), &plan)?;
     assert_eq!(rt; jobs.len(), 1);
     let job = &jobs[0];
     assert_eq!(rt;
@@ -133,7 +133,7 @@ fn each_line_of_the_plan_counts(rt: HostRuntime) -> Result<(), Fail> {
         (7, "kic = \"000102030405060708090A0B0C0D0E0F\""),
     ] {
         let text = plan_text(alloc, place, line)?;
-        assert!(rt; read_plan(alloc, text.as_bytes()).is_ok(), "at {line}");
+        assert!(rt; read_narrow_plan(alloc, text.as_bytes()).is_ok(), "at {line}");
     }
     assert!(rt; is_refused_plan(alloc, ""));
     assert!(rt; is_refused_plan(alloc, "campaign = 7\n"));
@@ -143,7 +143,7 @@ fn each_line_of_the_plan_counts(rt: HostRuntime) -> Result<(), Fail> {
 #[test]
 fn each_cell_of_the_jobs_counts(rt: HostRuntime) -> Result<(), Fail> {
     let alloc = rt.alloc();
-    let plan = read_plan(alloc, plan_text(alloc, 0, "")?.as_bytes())?;
+    let plan = read_narrow_plan(alloc, plan_text(alloc, 0, "")?.as_bytes())?;
     for rows in [
         "1,8902,1,b00010,00\n",
         "1,8901,2,b00010,00\n",
@@ -178,7 +178,7 @@ fn each_cell_of_the_jobs_counts(rt: HostRuntime) -> Result<(), Fail> {
     ] {
         let text = format!(in alloc; "job,card,kvn,tar,script\n{rows}")?;
         assert!(rt;
-            read_jobs(alloc, text.as_bytes(), &plan).is_ok(),
+            read_narrow_jobs(alloc, text.as_bytes(), &plan).is_ok(),
             "at {rows}"
         );
     }
@@ -216,13 +216,13 @@ fn script_text(alloc: Global, octets: u32) -> Result<String, AllocError> {
 #[test]
 fn limits_of_the_jobs(rt: HostRuntime) -> Result<(), Fail> {
     let alloc = rt.alloc();
-    let plan = read_plan(alloc, plan_text(alloc, 0, "")?.as_bytes())?;
+    let plan = read_narrow_plan(alloc, plan_text(alloc, 0, "")?.as_bytes())?;
     let rows = rows_text(alloc, 100)?;
-    assert_eq!(rt; read_jobs(alloc, rows.as_bytes(), &plan)?.len(), 100);
+    assert_eq!(rt; read_narrow_jobs(alloc, rows.as_bytes(), &plan)?.len(), 100);
     let rows = rows_text(alloc, 101)?;
     assert!(rt; is_refused(alloc, rows.as_str(), &plan));
     let script = script_text(alloc, 1024)?;
-    assert_eq!(rt; read_jobs(alloc, script.as_bytes(), &plan)?.len(), 1);
+    assert_eq!(rt; read_narrow_jobs(alloc, script.as_bytes(), &plan)?.len(), 1);
     let script = script_text(alloc, 1025)?;
     assert!(rt; is_refused(alloc, script.as_str(), &plan));
     Ok(())

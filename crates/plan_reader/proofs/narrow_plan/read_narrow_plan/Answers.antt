@@ -1,6 +1,6 @@
 use Rattle.std.proofs.lemmas.Result.{IfOk-weaker}
 use Rattle.plan_reader.proofs.PlanLaws.{plan_of-spelled, plan_of-reads}
-use Rattle.plan_reader.proofs.plans.read_plan.Goals as goal
+use Rattle.plan_reader.proofs.narrow_plan.read_narrow_plan.Goals as goal
 
 pub returns-clause-read : goal.returns-clause-read
 returns-clause-read c = IfOk-weaker c.narrow_plan.result _ _ (λ plan read. plan_of-reads c.args.octets.now plan read) c.narrow_plan.ensures.ok
