@@ -11,3 +11,4 @@ pub mod Check
 pub mod FieldValue
 pub mod PlanTable
 pub mod JobRows
+pub mod TableList

@@ -15,7 +15,7 @@ use toml::{Table, Value};
 const LONGEST_KEY: usize = 32;
 
 /// The value at a name.
-fn value_at<'a>(entry: &'a Table, name: &str) -> Option<&'a Value>
+pub(crate) fn value_at<'a>(entry: &'a Table, name: &str) -> Option<&'a Value>
     ensures { option_map (λ value. view value.now) result ≡ get_member name.now (table_view entry.now) }
 {
     entry.get(name)

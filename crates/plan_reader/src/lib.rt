@@ -5,6 +5,7 @@
 #![tactic(auto)]
 
 mod columns;
+mod documents;
 mod field_values;
 mod hexadecimals;
 mod job_lists;
