@@ -12,3 +12,5 @@ pub mod FieldValue
 pub mod PlanTable
 pub mod JobRows
 pub mod TableList
+pub mod CardPlaces
+pub mod KeysetPlaces

@@ -13,6 +13,7 @@ use Rattle.ota_core.specs.declared.keysets.Mode.TheVariants.{Higher}
 use Rattle.plan_reader.specs.Text.{◌>>=◌}
 use Rattle.plan_reader.specs.Check.{Check, first_wrong, is_wrong}
 use Rattle.plan_reader.specs.FieldValue.{number_in, octets_in, key_in, counter_in, mode_in, tables_in, needed, defaulted, has_other_name}
+use Rattle.plan_reader.specs.declared.keyset_table.Listing.{Listing}
 use Rattle.plan_reader.specs.declared.plans.Plan.{Plan}
 use Rattle.plan_reader.specs.declared.plans.PlanErr.{PlanErr}
 use Rattle.plan_reader.specs.declared.plans.PlanErr.TheVariants.{Refused, Memory}
@@ -111,12 +112,6 @@ base_of keyset = defaulted 0 counter_in (codes "base") keyset
 
 unfoldable pub put_of : Members → Option Bool
 put_of keyset = defaulted false as_bool (codes "put") keyset
-
--- a keyset that the plan lists, and whether it is put on its card later
-pub record Listing : Type 0 where
-  pub id : Keyset
-  pub facts : KeysetFacts
-  pub later : Bool
 
 -- the keyset that an entry says, where nothing is wrong with it
 unfoldable pub keyset_said : Members → Listing

@@ -46,6 +46,12 @@ impl CardList {
         Ok(())
     }
 
+    pub(crate) fn from_cards(cards: Vec<CardFacts>) -> CardList
+        ensures { result ≡ cards.items }
+    {
+        CardList { cards }
+    }
+
     /// The cards in order.
     pub fn as_slice(&self) -> &[CardFacts]
         ensures { result.now ≡ self.now }
