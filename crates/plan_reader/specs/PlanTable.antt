@@ -237,7 +237,7 @@ plan_fault octets = first_in_document (document_of octets)
 abbrev pub IsPlanOf : List ℕ → Plan → Type 0
 IsPlanOf octets plan = (plan_fault octets ≡ None) × (option_map plan_in (document_of octets) ≡ Some plan)
 
--- when an error comes: a refusal exactly with the first fault, want of memory with any octets
-abbrev pub PlanRefusal : List ℕ → PlanErr → Type 0
-PlanRefusal octets (Refused which row wrong) = plan_fault octets ≡ Some (which, row, wrong)
-PlanRefusal octets Memory = Unit {0}
+-- when an error comes: a refusal exactly with the first fault, want of memory with or without one
+abbrev pub Refuses : Option PlanFault → PlanErr → Type 0
+Refuses fault (Refused which row wrong) = fault ≡ Some (which, row, wrong)
+Refuses fault Memory = Unit {0}

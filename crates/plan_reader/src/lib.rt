@@ -4,12 +4,14 @@
 //! a plan of one card with one keyset in eight fixed lines, and a list of at most 100 jobs without quotes.
 #![tactic(auto)]
 
+mod card_entries;
 mod card_table;
 mod columns;
 mod documents;
 mod field_values;
 mod hexadecimals;
 mod job_lists;
+mod keyset_entries;
 mod keyset_table;
 mod narrow_jobs;
 mod narrow_plan;
