@@ -1,3 +1,4 @@
+pub mod PlanTableLemmas
 pub mod PlaceLemmas
 pub mod DocumentLemmas
 pub mod NumberLemmas

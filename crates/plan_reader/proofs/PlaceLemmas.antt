@@ -23,15 +23,15 @@ use Rattle.plan_reader.specs.CardPlaces.{place_of, have_own_numbers, IsPlaced, w
 use Rattle.plan_reader.specs.KeysetPlaces.{keyset_cmp, have_own_ids, IsListed}
 use Rattle.plan_reader.specs.declared.keyset_table.Listing.{Listing}
 
-both_hold : (first second : Bool) → IsTrue (first && second) → IsTrue first × IsTrue second
+pub both_hold : (first second : Bool) → IsTrue (first && second) → IsTrue first × IsTrue second
 both_hold true second holds = (refl, holds)
 both_hold false second holds = cc holds
 
-neither_holds : (first second : Bool) → (first || second) ≡ false → (first ≡ false) × (second ≡ false)
+pub neither_holds : (first second : Bool) → (first || second) ≡ false → (first ≡ false) × (second ≡ false)
 neither_holds true second holds = cc holds
 neither_holds false second holds = (refl, holds)
 
-not-true : (test : Bool) → IsTrue (not test) → test ≡ false
+pub not-true : (test : Bool) → IsTrue (not test) → test ≡ false
 not-true true holds = cc holds
 not-true false holds = refl
 
@@ -44,7 +44,7 @@ swapped true true rest = refl
 swapped true false rest = refl
 swapped false second rest = refl
 
-is_same_keyset-comm : (first second : Keyset) → is_same_keyset first second ≡ is_same_keyset second first
+pub is_same_keyset-comm : (first second : Keyset) → is_same_keyset first second ≡ is_same_keyset second first
 is_same_keyset-comm first second = grind (arith, nat_tests)
 
 -- there is a first place exactly where an element passes

@@ -16,6 +16,7 @@ mod keyset_table;
 mod narrow_jobs;
 mod narrow_plan;
 mod numbers;
+mod plan_documents;
 mod plans;
 mod tables;
 #[cfg(test)]
@@ -27,5 +28,6 @@ pub use job_lists::JobsErr;
 pub use narrow_jobs::read_narrow_jobs;
 pub use narrow_plan::read_narrow_plan;
 pub use numbers::number;
+pub use plan_documents::read_plan;
 pub use plans::{CardList, LaterList, Plan, PlanErr};
 pub use tables::{Field, Table};
