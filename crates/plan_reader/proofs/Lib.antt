@@ -1,3 +1,4 @@
+pub mod RecordLemmas
 pub mod PlanTableLemmas
 pub mod PlaceLemmas
 pub mod DocumentLemmas

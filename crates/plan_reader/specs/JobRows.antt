@@ -127,7 +127,7 @@ abbrev pub AreJobsIn : Plan → List ℕ → List Job → Type 0
 AreJobsIn plan octets jobs =
     (first_of_records plan (records_of octets) ≡ None) × (jobs ≡ map (job_said plan) (drop 1 (records_of octets)))
 
--- when an error comes: a refusal exactly with the first fault, want of memory with any octets
-abbrev pub JobsRefusal : Plan → List ℕ → JobsErr → Type 0
-JobsRefusal plan octets (Refused row wrong) = first_of_records plan (records_of octets) ≡ Some (row, wrong)
-JobsRefusal plan octets Memory = Unit {0}
+-- when an error comes: a refusal exactly with the first fault, want of memory with or without one
+abbrev pub RefusesJobs : Option JobsFault → JobsErr → Type 0
+RefusesJobs fault (Refused row wrong) = fault ≡ Some (row, wrong)
+RefusesJobs fault Memory = Unit {0}

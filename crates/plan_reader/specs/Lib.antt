@@ -14,3 +14,5 @@ pub mod JobRows
 pub mod TableList
 pub mod CardPlaces
 pub mod KeysetPlaces
+pub mod RowsLeft
+pub mod PlanPlaces

@@ -11,13 +11,16 @@ mod documents;
 mod field_values;
 mod hexadecimals;
 mod job_lists;
+mod job_table;
 mod keyset_entries;
 mod keyset_table;
 mod narrow_jobs;
 mod narrow_plan;
 mod numbers;
 mod plan_documents;
+mod plan_index;
 mod plans;
+mod records;
 mod tables;
 #[cfg(test)]
 mod narrow_tests;
