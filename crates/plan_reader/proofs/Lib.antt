@@ -1,3 +1,5 @@
+pub mod JobRowLemmas
+pub mod PlanIndexLemmas
 pub mod RecordLemmas
 pub mod PlanTableLemmas
 pub mod PlaceLemmas

@@ -1,5 +1,5 @@
 -- The list of jobs as the records of a CSV text: the columns, what they must be, and the jobs that the rows say.
-use Rattle.std.specs.Prelude.{◌≡◌, ℕ, ◌+◌, ◌/◌, nat_lt, nat_le, ◌==◌, ◌&&◌, ◌||◌, not, Bool, true, false, if◌then◌else◌, Option, Some, None, is_none, option_map, unwrap_or, List, [], ◌∷◌, ◌++◌, length, map, find, codes, bytes_eq, drop}
+use Rattle.std.specs.Prelude.{◌≡◌, ℕ, ◌≤◌, IsTrue, ◌+◌, ◌/◌, nat_lt, nat_le, ◌==◌, ◌&&◌, ◌||◌, not, Bool, true, false, if◌then◌else◌, Option, Some, None, is_none, option_map, unwrap_or, List, [], ◌∷◌, ◌++◌, length, map, find, codes, bytes_eq, drop}
 use Rattle.std.specs.Option.{option_or}
 use Rattle.std.specs.List.{list_any}
 use Rattle.csv.specs.Reading.{default_config, records, strip_bom}
@@ -131,3 +131,15 @@ AreJobsIn plan octets jobs =
 abbrev pub RefusesJobs : Option JobsFault → JobsErr → Type 0
 RefusesJobs fault (Refused row wrong) = fault ≡ Some (row, wrong)
 RefusesJobs fault Memory = Unit {0}
+
+-- a job that the plan allows: of its campaign, on one of its keysets, with a script of 1 to 4,096 octets
+pub record IsListed (plan : Plan) (job : Job) : Type 0 where
+  pub campaign : job.id.campaign ≡ plan.campaign
+  pub keyset : IsTrue (is_listed plan job.keyset)
+  pub filled : 1 ≤ length job.body
+  pub short : length job.body ≤ 4096
+
+-- each job of the list is one that the plan allows
+abbrev pub AreListed : Plan → List Job → Type 0
+AreListed plan [] = Unit {0}
+AreListed plan (job ∷ jobs) = IsListed plan job × AreListed plan jobs

@@ -16,3 +16,4 @@ pub mod CardPlaces
 pub mod KeysetPlaces
 pub mod RowsLeft
 pub mod PlanPlaces
+pub mod RowStop

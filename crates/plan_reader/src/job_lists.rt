@@ -1,6 +1,16 @@
+ghost use Rattle.std.specs.Prelude.{◌≡◌, Some, None, IsTrue, IfOk, IfErr};
+ghost use Rattle.csv.specs.Records.{fields_of};
+ghost use Rattle.plan_reader.specs.Jobs.{are_distinct};
+ghost use Rattle.plan_reader.specs.JobRows.{header_row, is_same_row, records_of, first_of_records, AreJobsIn, RefusesJobs, AreListed};
+
 use crate::columns::Column;
+use crate::job_rows::read_rows;
+use crate::plan_index::PlanIndex;
+use crate::plans::Plan;
+use crate::records::{cell, next_record, open_records};
+use csv::ByteRecord;
 use ota_core::{Job, Memory};
-use std::alloc::AllocFailed;
+use std::alloc::{AllocFailed, Global};
 
 /// Why the octets of a list of jobs give none.
 #[derive(Clone, Copy, Debug, PartialEq, Eq)]
@@ -33,3 +43,36 @@ impl From<AllocFailed<Job>> for JobsErr {
     }
 }
 
+/// Reads a list of jobs for a plan: the records of a CSV text, a header and a row for each job. It is refused exactly
+/// with the first thing that is wrong, by row, and in a row by column.
+pub fn read_jobs(alloc: Global, octets: &[u8], plan: &Plan) -> Result<Vec<Job>, JobsErr>
+    ensures ok { IfOk result (λ jobs. AreJobsIn plan.now octets.now jobs.items) }
+    ensures err { IfErr result (RefusesJobs (first_of_records plan.now (records_of octets.now))) }
+    ensures distinct { IfOk result (λ jobs. IsTrue (are_distinct jobs.items)) }
+    ensures listed { IfOk result (λ jobs. AreListed plan.now jobs.items) }
+{
+    let index = PlanIndex::new(alloc, plan)?;
+    let mut reader = open_records(alloc, octets);
+    let mut row = ByteRecord::new(alloc);
+    if !next_record(&mut reader, &mut row)? {
+        return Err(JobsErr::Refused(0, Column::Header));
+    }
+    if !is_header(&row) {
+        return Err(JobsErr::Refused(0, Column::Header));
+    }
+    let jobs = read_rows(alloc, &mut reader, &mut row, &index)?;
+    Ok(jobs.into_jobs())
+}
+
+/// Whether a record is the header.
+#[tactic(auto, unfolding(crate::specs::JobRows::header_row))]
+fn is_header(row: &ByteRecord) -> bool
+    ensures { result ≡ is_same_row (fields_of row.now) header_row }
+{
+    row.len() == 5
+        && cell(row, 0) == b"job".as_slice()
+        && cell(row, 1) == b"card".as_slice()
+        && cell(row, 2) == b"kvn".as_slice()
+        && cell(row, 3) == b"tar".as_slice()
+        && cell(row, 4) == b"script".as_slice()
+}

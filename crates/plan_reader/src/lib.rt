@@ -11,6 +11,7 @@ mod documents;
 mod field_values;
 mod hexadecimals;
 mod job_lists;
+mod job_rows;
 mod job_table;
 mod keyset_entries;
 mod keyset_table;
@@ -27,7 +28,7 @@ mod narrow_tests;
 mod texts;
 
 pub use columns::Column;
-pub use job_lists::JobsErr;
+pub use job_lists::{JobsErr, read_jobs};
 pub use narrow_jobs::read_narrow_jobs;
 pub use narrow_plan::read_narrow_plan;
 pub use numbers::number;
