@@ -26,16 +26,15 @@ Row = List (List ℕ)
 abbrev pub cell : ℕ → Row → List ℕ
 cell place row = unwrap_or (field_at row place) []
 
--- the first record
-unfoldable pub header_row : Row
-header_row = codes "job" ∷ codes "card" ∷ codes "kvn" ∷ codes "tar" ∷ codes "script" ∷ []
-
--- two records have the same fields
-abbrev pub is_same_row : Row → Row → Bool
-is_same_row [] [] = true
-is_same_row [] (field ∷ row) = false
-is_same_row (field ∷ row) [] = false
-is_same_row (field ∷ row) (other ∷ others) = bytes_eq field other && is_same_row row others
+-- the first record: these five fields
+unfoldable pub is_header : Row → Bool
+is_header row =
+    (length row == 5)
+    && (bytes_eq (cell 0 row) (codes "job")
+    && (bytes_eq (cell 1 row) (codes "card")
+    && (bytes_eq (cell 2 row) (codes "kvn")
+    && (bytes_eq (cell 3 row) (codes "tar")
+    && bytes_eq (cell 4 row) (codes "script")))))
 
 -- the card of the plan with this number
 abbrev pub card_in : Plan → ℕ → Option CardFacts
@@ -116,7 +115,7 @@ first_of_rows plan before (row ∷ rows) =
 abbrev pub first_of_records : Plan → List Row → Option JobsFault
 first_of_records plan [] = Some (0, column.Header)
 first_of_records plan (row ∷ rows) =
-    if is_same_row row header_row then first_of_rows plan [] rows else Some (0, column.Header)
+    if is_header row then first_of_rows plan [] rows else Some (0, column.Header)
 
 -- the records of the octets: fields between commas, also in double quotes; a byte order mark at the front is passed over
 unfoldable pub records_of : List ℕ → List Row

@@ -1,7 +1,7 @@
-ghost use Rattle.std.specs.Prelude.{◌≡◌, Some, None, IsTrue, IfOk, IfErr};
+ghost use Rattle.std.specs.Prelude.{◌≡◌, bytes_eq, IsTrue, IfOk, IfErr};
 ghost use Rattle.csv.specs.Records.{fields_of};
 ghost use Rattle.plan_reader.specs.Jobs.{are_distinct};
-ghost use Rattle.plan_reader.specs.JobRows.{header_row, is_same_row, records_of, first_of_records, AreJobsIn, RefusesJobs, AreListed};
+ghost use Rattle.plan_reader.specs.JobRows.{cell, is_header, records_of, first_of_records, AreJobsIn, RefusesJobs, AreListed};
 
 use crate::columns::Column;
 use crate::job_rows::read_rows;
@@ -65,14 +65,30 @@ pub fn read_jobs(alloc: Global, octets: &[u8], plan: &Plan) -> Result<Vec<Job>, 
 }
 
 /// Whether a record is the header.
-#[tactic(auto, unfolding(crate::specs::JobRows::header_row))]
+#[tactic(auto, unfolding(crate::specs::JobRows::is_header))]
 fn is_header(row: &ByteRecord) -> bool
-    ensures { result ≡ is_same_row (fields_of row.now) header_row }
+    ensures { result ≡ is_header (fields_of row.now) }
 {
-    row.len() == 5
-        && cell(row, 0) == b"job".as_slice()
-        && cell(row, 1) == b"card".as_slice()
-        && cell(row, 2) == b"kvn".as_slice()
-        && cell(row, 3) == b"tar".as_slice()
-        && cell(row, 4) == b"script".as_slice()
+    if row.len() != 5 {
+        return false;
+    }
+    if !has_field(row, 0, b"job") {
+        return false;
+    }
+    if !has_field(row, 1, b"card") {
+        return false;
+    }
+    if !has_field(row, 2, b"kvn") {
+        return false;
+    }
+    if !has_field(row, 3, b"tar") {
+        return false;
+    }
+    has_field(row, 4, b"script")
+}
+
+fn has_field(row: &ByteRecord, place: usize, name: &[u8]) -> bool
+    ensures { result ≡ bytes_eq (cell place (fields_of row.now)) name.now }
+{
+    cell(row, place) == name
 }
