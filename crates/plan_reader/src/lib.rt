@@ -12,6 +12,8 @@ mod field_values;
 mod hexadecimals;
 mod job_lists;
 mod job_rows;
+#[cfg(test)]
+mod job_tests;
 mod job_table;
 mod keyset_entries;
 mod keyset_table;
@@ -20,6 +22,8 @@ mod narrow_plan;
 mod numbers;
 mod plan_documents;
 mod plan_index;
+#[cfg(test)]
+mod plan_tests;
 mod plans;
 mod records;
 mod tables;
