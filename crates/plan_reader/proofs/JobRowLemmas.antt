@@ -6,12 +6,14 @@ use Rattle.std.specs.List.{list_any}
 use Rattle.std.proofs.lemmas.List.Folds.{list_any-append}
 use Rattle.ota_core.specs.declared.jobs.JobId.{JobId}
 use Rattle.ota_core.specs.declared.jobs.Job.{Job}
-use Rattle.plan_reader.specs.Check.{Check, first_wrong, is_wrong}
+use Rattle.plan_reader.specs.Check.{Check, first_wrong, is_wrong, outcome}
 use Rattle.plan_reader.specs.Hexadecimal.{octets_of}
-use Rattle.plan_reader.specs.JobRows.{Row, cell, is_header, is_listed, job_number_of, kvn_in, script_in, longest_script, takes_wide, job_said, has_job_number, row_checks, first_of_rows, first_of_records, AreListed}
+use Rattle.plan_reader.specs.JobRows.{Row, cell, is_header, is_listed, job_number_of, kvn_in, script_in, longest_script, takes_wide, job_said, has_job_number, row_checks, first_of_rows, jobs_of_records, NamesRow, RefusesJobs, AreListed}
 use Rattle.plan_reader.specs.Jobs.{has_job, are_distinct}
 use Rattle.plan_reader.specs.RowsLeft.{Takes}
 use Rattle.plan_reader.specs.declared.columns.Column.{Column}
+use Rattle.plan_reader.specs.declared.job_lists.JobsErr.{JobsErr}
+use Rattle.plan_reader.specs.declared.job_lists.JobsErr.TheVariants.{Refused, Memory}
 use Rattle.plan_reader.specs.declared.plans.Plan.{Plan}
 use Rattle.plan_reader.proofs.HexadecimalLemmas.{octets_of-reads}
 
@@ -189,6 +191,13 @@ jobs-listed plan before (row ∷ rows) right =
       jobs-listed plan (before ++ job_said plan row ∷ []) rows more,
     )
 
--- rows behind a header are refused as they are
-pub behind-header : (plan : Plan) (row : Row) (rows : List Row) → is_header row ≡ true → first_of_records plan (row ∷ rows) ≡ first_of_rows plan [] rows
+-- rows behind a header are read as they are
+pub behind-header : (plan : Plan) (row : Row) (rows : List Row) → is_header row ≡ true
+    → jobs_of_records plan (row ∷ rows) ≡ outcome (map (job_said plan) rows) (first_of_rows plan [] rows)
 behind-header plan row rows header = rw header refl
+
+-- what is refused of the rows is refused of the list
+pub names-refuses : (plan : Plan) (rows : List Row) (err : JobsErr) → NamesRow (first_of_rows plan [] rows) err
+    → RefusesJobs (outcome (map (job_said plan) rows) (first_of_rows plan [] rows)) err
+names-refuses plan rows (Refused row column) names = rw names refl
+names-refuses plan rows Memory names = tt

@@ -1,5 +1,5 @@
 -- The first thing that is wrong.
-use Rattle.std.specs.Prelude.{ℕ, Bool, true, false, Option, Some, None, List, [], ◌∷◌}
+use Rattle.std.specs.Prelude.{ℕ, Bool, true, false, Option, Some, None, Result, Ok, Err, List, [], ◌∷◌}
 
 -- a test of an input, and what it is refused with where the test finds it wrong
 abbrev pub Check : Type 0 → Type 0
@@ -20,3 +20,8 @@ is_wrong barred (Some value) = barred value
 abbrev pub says : {A : Type 0} → (A → Bool) → Option A → Bool
 says holds None = false
 says holds (Some value) = holds value
+
+-- the value, or the first fault where there is one
+abbrev pub outcome : {A Fault : Type 0} → A → Option Fault → Result A Fault
+outcome value None = Ok value
+outcome value (Some fault) = Err fault

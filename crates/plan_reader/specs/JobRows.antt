@@ -1,5 +1,5 @@
 -- The list of jobs as the records of a CSV text: the columns, what they must be, and the jobs that the rows say.
-use Rattle.std.specs.Prelude.{◌≡◌, ℕ, ◌≤◌, IsTrue, ◌+◌, ◌/◌, nat_lt, nat_le, ◌==◌, ◌&&◌, ◌||◌, not, Bool, true, false, if◌then◌else◌, Option, Some, None, is_none, option_map, unwrap_or, List, [], ◌∷◌, ◌++◌, length, map, find, codes, bytes_eq, drop}
+use Rattle.std.specs.Prelude.{◌≡◌, ℕ, ◌≤◌, IsTrue, ◌+◌, ◌/◌, nat_lt, nat_le, ◌==◌, ◌&&◌, ◌||◌, not, Bool, true, false, if◌then◌else◌, Option, Some, None, is_none, option_map, unwrap_or, Result, Ok, Err, List, [], ◌∷◌, ◌++◌, length, map, find, codes, bytes_eq, drop}
 use Rattle.std.specs.Option.{option_or}
 use Rattle.std.specs.List.{list_any}
 use Rattle.csv.specs.Reading.{default_config, records, strip_bom}
@@ -8,7 +8,7 @@ use Rattle.ota_core.specs.Keyset.{Keyset, is_same_keyset}
 use Rattle.ota_core.specs.KeysetList.{has_kvn}
 use Rattle.ota_core.specs.declared.cards.CardFacts.{CardFacts}
 use Rattle.ota_core.specs.declared.jobs.Job.{Job}
-use Rattle.plan_reader.specs.Check.{Check, first_wrong, is_wrong, says}
+use Rattle.plan_reader.specs.Check.{Check, first_wrong, is_wrong, says, outcome}
 use Rattle.plan_reader.specs.Text.{◌>>=◌, only_if}
 use Rattle.plan_reader.specs.Hexadecimal.{octets_of}
 use Rattle.plan_reader.specs.Number.{number_of}
@@ -111,25 +111,29 @@ first_of_rows plan before (row ∷ rows) =
     option_or (option_map (λ wrong. (length before + 1, wrong)) (first_wrong (row_checks plan before row)))
     (first_of_rows plan (before ++ job_said plan row ∷ []) rows)
 
--- the first fault of all records
-abbrev pub first_of_records : Plan → List Row → Option JobsFault
-first_of_records plan [] = Some (0, column.Header)
-first_of_records plan (row ∷ rows) =
-    if is_header row then first_of_rows plan [] rows else Some (0, column.Header)
+-- the jobs that records say, or their first fault
+abbrev pub jobs_of_records : Plan → List Row → Result (List Job) JobsFault
+jobs_of_records plan [] = Err (0, column.Header)
+jobs_of_records plan (row ∷ rows) =
+    if is_header row then outcome (map (job_said plan) rows) (first_of_rows plan [] rows) else Err (0, column.Header)
 
 -- the records of the octets: fields between commas, also in double quotes; a byte order mark at the front is passed over
 unfoldable pub records_of : List ℕ → List Row
 records_of octets = records default_config (strip_bom octets)
 
--- the octets are a list of jobs in which nothing is wrong, and these are the jobs that they say
-abbrev pub AreJobsIn : Plan → List ℕ → List Job → Type 0
-AreJobsIn plan octets jobs =
-    (first_of_records plan (records_of octets) ≡ None) × (jobs ≡ map (job_said plan) (drop 1 (records_of octets)))
+-- the jobs that octets list, or their first fault
+unfoldable pub jobs_of : Plan → List ℕ → Result (List Job) JobsFault
+jobs_of plan octets = jobs_of_records plan (records_of octets)
 
--- when an error comes: a refusal exactly with the first fault, want of memory with or without one
-abbrev pub RefusesJobs : Option JobsFault → JobsErr → Type 0
-RefusesJobs fault (Refused row wrong) = fault ≡ Some (row, wrong)
-RefusesJobs fault Memory = Unit {0}
+-- an error names this fault, or is want of memory
+abbrev pub NamesRow : Option JobsFault → JobsErr → Type 0
+NamesRow fault (Refused row wrong) = fault ≡ Some (row, wrong)
+NamesRow fault Memory = Unit {0}
+
+-- when an error comes, by the reading of the octets: a refusal exactly with their first fault, want of memory with any
+abbrev pub RefusesJobs : Result (List Job) JobsFault → JobsErr → Type 0
+RefusesJobs reading (Refused row wrong) = reading ≡ Err (row, wrong)
+RefusesJobs reading Memory = Unit {0}
 
 -- a job that the plan allows: of its campaign, on one of its keysets, with a script of 1 to 4,096 octets
 pub record IsListed (plan : Plan) (job : Job) : Type 0 where

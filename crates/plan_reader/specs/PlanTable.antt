@@ -1,5 +1,5 @@
 -- The plan as the tables of a TOML document: each table's fields, what they must be, and the plan that they say.
-use Rattle.std.specs.Prelude.{◌≡◌, ℕ, ◌+◌, nat_lt, ◌==◌, ◌&&◌, not, Bool, true, false, if◌then◌else◌, Option, Some, None, is_none, option_map, unwrap_or, List, [], ◌∷◌, ◌++◌, length, map, codes, bytes_eq}
+use Rattle.std.specs.Prelude.{◌≡◌, ℕ, ◌+◌, nat_lt, ◌==◌, ◌&&◌, not, Bool, true, false, if◌then◌else◌, Option, Some, None, is_none, option_map, unwrap_or, Result, Ok, Err, List, [], ◌∷◌, ◌++◌, length, map, codes, bytes_eq}
 use Rattle.std.specs.Option.{option_or}
 use Rattle.std.specs.List.{list_any, filter_map}
 use Rattle.std.specs.Str.{is_utf8}
@@ -11,7 +11,7 @@ use Rattle.ota_core.specs.declared.keysets.KeysetFacts.{KeysetFacts}
 use Rattle.ota_core.specs.declared.keysets.Mode.{Mode}
 use Rattle.ota_core.specs.declared.keysets.Mode.TheVariants.{Higher}
 use Rattle.plan_reader.specs.Text.{◌>>=◌}
-use Rattle.plan_reader.specs.Check.{Check, first_wrong, is_wrong}
+use Rattle.plan_reader.specs.Check.{Check, first_wrong, is_wrong, outcome}
 use Rattle.plan_reader.specs.FieldValue.{number_in, octets_in, key_in, counter_in, mode_in, tables_in, needed, defaulted, has_other_name}
 use Rattle.plan_reader.specs.declared.keyset_table.Listing.{Listing}
 use Rattle.plan_reader.specs.declared.plans.Plan.{Plan}
@@ -224,20 +224,21 @@ plan_in top =
 unfoldable pub document_of : List ℕ → Option Members
 document_of octets = if is_utf8 octets then parse_document octets else None
 
--- octets that are no document are refused as a whole
-abbrev pub first_in_document : Option Members → Option PlanFault
-first_in_document None = Some (table.Top, 0, field.Text)
-first_in_document (Some top) = first_in_plan top
+-- the plan that a document says, or its first fault; what is no document is refused as a whole
+abbrev pub plan_of_document : Option Members → Result Plan PlanFault
+plan_of_document None = Err (table.Top, 0, field.Text)
+plan_of_document (Some top) = outcome (plan_in top) (first_in_plan top)
 
--- the first fault of a plan's octets
-abbrev pub plan_fault : List ℕ → Option PlanFault
-plan_fault octets = first_in_document (document_of octets)
+-- the plan that octets say, or their first fault
+unfoldable pub plan_of : List ℕ → Result Plan PlanFault
+plan_of octets = plan_of_document (document_of octets)
 
--- the octets are a plan in which nothing is wrong, and this is the plan that they say
-abbrev pub IsPlanOf : List ℕ → Plan → Type 0
-IsPlanOf octets plan = (plan_fault octets ≡ None) × (option_map plan_in (document_of octets) ≡ Some plan)
+-- an error names this fault, or is want of memory
+abbrev pub Names : Option PlanFault → PlanErr → Type 0
+Names fault (Refused which row wrong) = fault ≡ Some (which, row, wrong)
+Names fault Memory = Unit {0}
 
--- when an error comes: a refusal exactly with the first fault, want of memory with or without one
-abbrev pub Refuses : Option PlanFault → PlanErr → Type 0
-Refuses fault (Refused which row wrong) = fault ≡ Some (which, row, wrong)
-Refuses fault Memory = Unit {0}
+-- when an error comes, by the reading of the octets: a refusal exactly with their first fault, want of memory with any
+abbrev pub RefusesPlan : Result Plan PlanFault → PlanErr → Type 0
+RefusesPlan reading (Refused which row wrong) = reading ≡ Err (which, row, wrong)
+RefusesPlan reading Memory = Unit {0}

@@ -4,7 +4,7 @@ ghost use Rattle.std.specs.Prelude.{◌≡◌, ◌≤◌, ◌++◌, false, Some,
 ghost use Rattle.toml.specs.View.{table_view};
 ghost use Rattle.plan_reader.specs.Check.{first_wrong, is_wrong};
 ghost use Rattle.plan_reader.specs.FieldValue.{has_other_name};
-ghost use Rattle.plan_reader.specs.PlanTable.{card_names, number_of_card, buffer_of, rfm_of, ram_of, wide_of, has_number, card_said, card_checks, first_of_entries, Refuses};
+ghost use Rattle.plan_reader.specs.PlanTable.{card_names, number_of_card, buffer_of, rfm_of, ram_of, wide_of, has_number, card_said, card_checks, first_of_entries, Names};
 ghost use Rattle.plan_reader.specs.TableList.{tables_pointed};
 ghost use Rattle.plan_reader.specs.declared.tables.Table.TheVariants as which;
 ghost use Rattle.plan_reader.specs.declared.tables.Field.TheVariants as field;
@@ -26,7 +26,7 @@ pub(crate) fn read_cards(alloc: Global, entries: &[&Table]) -> Result<CardTable,
     requires few { length entries.now ≤ 10000 }
     ensures right { IfOk result (λ _. first_of_entries which.Card card_said card_checks [] (tables_pointed entries.now) ≡ None) }
     ensures cards { IfOk result (λ cards. cards ≡ map card_said (tables_pointed entries.now)) }
-    ensures err { IfErr result (Refuses (first_of_entries which.Card card_said card_checks [] (tables_pointed entries.now))) }
+    ensures err { IfErr result (Names (first_of_entries which.Card card_said card_checks [] (tables_pointed entries.now))) }
 {
     let mut cards = CardTable::new(alloc);
     let mut row: u32 = 0;

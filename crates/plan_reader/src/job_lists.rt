@@ -1,7 +1,7 @@
-ghost use Rattle.std.specs.Prelude.{◌≡◌, bytes_eq, IsTrue, IfOk, IfErr};
+ghost use Rattle.std.specs.Prelude.{◌≡◌, ◌≤◌, Ok, bytes_eq, length, IsTrue, IfOk, IfErr};
 ghost use Rattle.csv.specs.Records.{fields_of};
 ghost use Rattle.plan_reader.specs.Jobs.{are_distinct};
-ghost use Rattle.plan_reader.specs.JobRows.{cell, is_header, records_of, first_of_records, AreJobsIn, RefusesJobs, AreListed};
+ghost use Rattle.plan_reader.specs.JobRows.{cell, is_header, jobs_of, RefusesJobs, AreListed};
 
 use crate::columns::Column;
 use crate::job_rows::read_rows;
@@ -45,10 +45,12 @@ impl From<AllocFailed<Job>> for JobsErr {
 
 /// Reads a list of jobs for a plan: the records of a CSV text, a header and a row for each job. It is refused exactly
 /// with the first thing that is wrong, by row, and in a row by column.
+#[tactic(auto, unfolding(crate::specs::JobRows::jobs_of))]
 pub fn read_jobs(alloc: Global, octets: &[u8], plan: &Plan) -> Result<Vec<Job>, JobsErr>
-    ensures ok { IfOk result (λ jobs. AreJobsIn plan.now octets.now jobs.items) }
-    ensures err { IfErr result (RefusesJobs (first_of_records plan.now (records_of octets.now))) }
+    ensures ok { IfOk result (λ jobs. jobs_of plan.now octets.now ≡ Ok jobs.items) }
+    ensures err { IfErr result (RefusesJobs (jobs_of plan.now octets.now)) }
     ensures distinct { IfOk result (λ jobs. IsTrue (are_distinct jobs.items)) }
+    ensures few { IfOk result (λ jobs. length jobs.items ≤ 100000) }
     ensures listed { IfOk result (λ jobs. AreListed plan.now jobs.items) }
 {
     let index = PlanIndex::new(alloc, plan)?;

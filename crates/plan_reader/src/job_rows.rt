@@ -4,7 +4,7 @@ ghost use Rattle.std.specs.Prelude.{◌≡◌, ◌<◌, ◌≤◌, ◌==◌, ◌
 ghost use Rattle.csv.specs.Records.{fields_of};
 ghost use Rattle.plan_reader.specs.Check.{first_wrong, is_wrong};
 ghost use Rattle.plan_reader.specs.Hexadecimal.{octets_of};
-ghost use Rattle.plan_reader.specs.JobRows.{cell, card_in, is_listed, job_number_of, card_number_of, kvn_in, tar_of, script_in, longest_script, takes_wide, has_job_number, job_said, row_checks, first_of_rows, RefusesJobs};
+ghost use Rattle.plan_reader.specs.JobRows.{cell, card_in, is_listed, job_number_of, card_number_of, kvn_in, tar_of, script_in, longest_script, takes_wide, has_job_number, job_said, row_checks, first_of_rows, NamesRow};
 ghost use Rattle.plan_reader.specs.PlanPlaces.{width_of};
 ghost use Rattle.plan_reader.specs.RowStop.{StopComes};
 ghost use Rattle.plan_reader.specs.RowsLeft.{IsReading, rows_left};
@@ -63,7 +63,8 @@ pub(crate) fn read_rows(
     requires reading { IsReading reader.old }
     ensures right { IfOk result (λ _. first_of_rows plan.now [] (rows_left reader.old) ≡ None) }
     ensures jobs { IfOk result (λ jobs. jobs ≡ map (job_said plan.now) (rows_left reader.old)) }
-    ensures err { IfErr result (RefusesJobs (first_of_rows plan.now [] (rows_left reader.old))) }
+    ensures few { IfOk result (λ jobs. length jobs ≤ 100000) }
+    ensures err { IfErr result (NamesRow (first_of_rows plan.now [] (rows_left reader.old))) }
 {
     let mut jobs = JobTable::new(alloc);
     let mut place: u32 = 0;

@@ -4,7 +4,7 @@ ghost use Rattle.std.specs.Prelude.{◌≡◌, ◌≤◌, ◌==◌, ◌&&◌, no
 ghost use Rattle.toml.specs.View.{table_view};
 ghost use Rattle.plan_reader.specs.Check.{first_wrong, is_wrong};
 ghost use Rattle.plan_reader.specs.FieldValue.{has_other_name};
-ghost use Rattle.plan_reader.specs.PlanTable.{keyset_names, card_of_keyset, kvn_of, kic_of, kid_of, cipher_of, mode_of, base_of, put_of, has_number, lists_keyset, has_kid, keyset_said, keyset_checks, first_of_entries, Refuses};
+ghost use Rattle.plan_reader.specs.PlanTable.{keyset_names, card_of_keyset, kvn_of, kic_of, kid_of, cipher_of, mode_of, base_of, put_of, has_number, lists_keyset, has_kid, keyset_said, keyset_checks, first_of_entries, Names};
 ghost use Rattle.plan_reader.specs.TableList.{tables_pointed};
 ghost use Rattle.plan_reader.specs.declared.tables.Table.TheVariants as which;
 ghost use Rattle.plan_reader.specs.declared.tables.Field.TheVariants as field;
@@ -31,7 +31,7 @@ pub(crate) fn read_keysets(
     requires few { length entries.now ≤ 20000 }
     ensures right { IfOk result (λ _. first_of_entries which.Keyset keyset_said (keyset_checks cards.now) [] (tables_pointed entries.now) ≡ None) }
     ensures keysets { IfOk result (λ keysets. keysets ≡ map keyset_said (tables_pointed entries.now)) }
-    ensures err { IfErr result (Refuses (first_of_entries which.Keyset keyset_said (keyset_checks cards.now) [] (tables_pointed entries.now))) }
+    ensures err { IfErr result (Names (first_of_entries which.Keyset keyset_said (keyset_checks cards.now) [] (tables_pointed entries.now))) }
 {
     let mut keysets = KeysetTable::new(alloc);
     let mut row: u32 = 0;

@@ -1,9 +1,9 @@
 //! A plan as a TOML document.
 
-ghost use Rattle.std.specs.Prelude.{◌≡◌, ◌≤◌, ◌<◌, nat_lt, Some, None, [], map, length, is_none, unwrap_or, option_map, IfOk, IfErr};
+ghost use Rattle.std.specs.Prelude.{◌≡◌, ◌≤◌, ◌<◌, nat_lt, Some, None, Ok, [], map, length, is_none, unwrap_or, option_map, IfOk, IfErr};
 ghost use Rattle.toml.specs.View.{table_view};
 ghost use Rattle.plan_reader.specs.FieldValue.{has_other_name};
-ghost use Rattle.plan_reader.specs.PlanTable.{top_names, campaign_of, cards_of, keysets_of, card_list, keyset_list, top_checks, keyset_list_checks, card_said, keyset_said, first_in_plan, plan_of_lists, with_issued, later_of, plan_in, IsPlanOf, plan_fault, Refuses};
+ghost use Rattle.plan_reader.specs.PlanTable.{top_names, campaign_of, cards_of, keysets_of, card_list, keyset_list, top_checks, keyset_list_checks, card_said, keyset_said, first_in_plan, plan_of_lists, with_issued, later_of, plan_in, plan_of, Names, RefusesPlan};
 ghost use Rattle.plan_reader.specs.Check.{first_wrong};
 ghost use Rattle.plan_reader.specs.TableList.{tables_said, tables_pointed};
 
@@ -29,9 +29,10 @@ const MOST_KEYSETS: usize = 20_000;
 
 /// Reads a plan: a TOML document with the campaign's number, its cards and their keysets. It is refused exactly with
 /// the first thing that is wrong, in this order: the document, the top, the cards, the keysets.
+#[tactic(auto, unfolding(crate::specs::PlanTable::plan_of))]
 pub fn read_plan(alloc: Global, octets: &[u8]) -> Result<Plan, PlanErr>
-    ensures ok { IfOk result (IsPlanOf octets.now) }
-    ensures err { IfErr result (Refuses (plan_fault octets.now)) }
+    ensures ok { IfOk result (λ plan. plan_of octets.now ≡ Ok plan) }
+    ensures err { IfErr result (RefusesPlan (plan_of octets.now)) }
 {
     match document(alloc, octets)? {
         Some(top) => read_top(alloc, &top),
@@ -44,7 +45,7 @@ pub fn read_plan(alloc: Global, octets: &[u8]) -> Result<Plan, PlanErr>
 fn read_top(alloc: Global, top: &Table) -> Result<Plan, PlanErr>
     ensures right { IfOk result (λ _. first_in_plan (table_view top.now) ≡ None) }
     ensures plan { IfOk result (λ plan. plan ≡ plan_in (table_view top.now)) }
-    ensures err { IfErr result (Refuses (first_in_plan (table_view top.now))) }
+    ensures err { IfErr result (Names (first_in_plan (table_view top.now))) }
 {
     let (campaign, cards) = read_front(alloc, top)?;
     let cards = read_cards(alloc, cards.as_slice())?;
@@ -59,7 +60,7 @@ fn read_front<'a>(alloc: Global, top: &'a Table) -> Result<(u32, Vec<&'a Table>)
     ensures campaign { IfOk result (λ front. campaign_of (table_view top.now) ≡ Some front.0) }
     ensures cards { IfOk result (λ front. tables_said front.1 ≡ card_list (table_view top.now)) }
     ensures few { IfOk result (λ front. length front.1.items ≤ 10000) }
-    ensures err { IfErr result (Refuses (first_wrong (top_checks (table_view top.now)))) }
+    ensures err { IfErr result (Names (first_wrong (top_checks (table_view top.now)))) }
 {
     if has_other_name(top) {
         return Err(PlanErr::Refused(tables::Table::Top, 0, Field::Unknown));
@@ -83,7 +84,7 @@ fn read_keyset_list<'a>(alloc: Global, top: &'a Table) -> Result<Vec<&'a Table>,
     ensures right { IfOk result (λ _. first_wrong (keyset_list_checks (table_view top.now)) ≡ None) }
     ensures keysets { IfOk result (λ keysets. tables_said keysets ≡ keyset_list (table_view top.now)) }
     ensures few { IfOk result (λ keysets. length keysets.items ≤ 20000) }
-    ensures err { IfErr result (Refuses (first_wrong (keyset_list_checks (table_view top.now)))) }
+    ensures err { IfErr result (Names (first_wrong (keyset_list_checks (table_view top.now)))) }
 {
     let keysets = match keysets(alloc, top)? {
         Some(keysets) => keysets,
