@@ -4,9 +4,6 @@ pub mod Number
 pub mod Hexadecimal
 pub mod Plan
 pub mod Jobs
-pub mod NarrowPlan
-pub mod NarrowJobs
-pub mod RowCells
 pub mod Check
 pub mod FieldValue
 pub mod PlanTable

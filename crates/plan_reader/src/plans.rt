@@ -30,22 +30,6 @@ impl Model for CardList {
 }
 
 impl CardList {
-    pub(crate) fn new(alloc: Global) -> CardList
-        ensures { result ≡ [] }
-    {
-        CardList {
-            cards: Vec::new(alloc),
-        }
-    }
-
-    pub(crate) fn push(&mut self, card: CardFacts) -> Result<(), Memory>
-        ensures ok { OnOk result (self.new ≡ self.old ++ card ∷ []) }
-        ensures err { OnErr result (self.new ≡ self.old) }
-    {
-        self.cards.push(card)?;
-        Ok(())
-    }
-
     pub(crate) fn from_cards(cards: Vec<CardFacts>) -> CardList
         ensures { result ≡ cards.items }
     {
