@@ -37,8 +37,8 @@ text_reading of octets = if nat_le (length octets) text_limit then Ok octets els
 
 -- what a reading says, or the fault of the command by its own
 abbrev pub or_fault : {T F : Type 0} → (F → Fault) → Result T F → Result T Fault
-or_fault as (Ok value) = Ok value
-or_fault as (Err refused) = Err (as refused)
+or_fault refusal (Ok value) = Ok value
+or_fault refusal (Err refused) = Err (refusal refused)
 
 -- the plan that an input says, or the fault
 abbrev pub plan_reading : List ℕ → Result Plan Fault
