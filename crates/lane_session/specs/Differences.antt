@@ -51,9 +51,22 @@ keyset_otherwise histories card keyset =
 abbrev pub keyset_of_card : List (List Entry) → CardFacts → Option Keyset
 keyset_of_card histories card = first_some (keyset_otherwise histories card) card.keysets
 
--- the first keyset of the plan that a lane has opened with other facts: cards in their order, and on a card its keysets
+-- the keyset, where a lane has opened it with other facts
+abbrev pub later_otherwise : List (List Entry) → Keyset × KeysetFacts → Option Keyset
+later_otherwise histories later = if is_opened_otherwise histories later.0 later.1 then Some later.0 else None
+
+-- the first keyset with which a card is issued that a lane has opened with other facts: cards in their order, and on a
+-- card its keysets
+abbrev pub issued_difference : List CardFacts → List (List Entry) → Option Keyset
+issued_difference cards histories = first_some (keyset_of_card histories) cards
+
+-- the first of the keysets that are put later which a lane has opened with other facts
+abbrev pub later_difference : List (Keyset × KeysetFacts) → List (List Entry) → Option Keyset
+later_difference later histories = first_some (later_otherwise histories) later
+
+-- the first keyset of the plan that a lane has opened with other facts: those that are put later behind all others
 abbrev pub keyset_difference : Plan → List (List Entry) → Option Keyset
-keyset_difference plan histories = first_some (keyset_of_card histories) plan.cards
+keyset_difference plan histories = option_or (issued_difference plan.cards histories) (later_difference plan.later histories)
 
 -- the counter that the first lane holds for the row's job otherwise than the row says
 abbrev pub counter_otherwise : List (List Entry) → Job → Option ℕ

@@ -10,6 +10,8 @@ ghost use Rattle.lane_session.specs.Differences.{
   opens_otherwise,
   is_opened_otherwise,
   keyset_of_card,
+  issued_difference,
+  later_difference,
   keyset_difference,
   counter_otherwise,
   job_difference,
@@ -21,14 +23,37 @@ use ota_core::questions::is_same_keyset;
 use ota_core::{CardFacts, Counter, Entry, Job, KeysetFacts, KeysetId, Mode};
 use plan_reader::Plan;
 
-/// The first keyset of the plan, in its order, that a lane has opened with other facts.
+/// The first keyset of the plan, in its order, that a lane has opened with other facts. Those that are put later stand
+/// behind all others.
 pub fn keyset_difference(lanes: &[Lane], plan: &Plan) -> Option<KeysetId>
     ensures { result ≡ keyset_difference plan.now (histories_of lanes.now) }
 {
-    for card in plan.cards.as_slice() {
+    match issued_difference(lanes, plan.cards.as_slice()) {
+        Some(keyset) => Some(keyset),
+        None => later_difference(lanes, plan.later.as_slice()),
+    }
+}
+
+/// The first keyset with which one of the cards is issued that a lane has opened with other facts.
+fn issued_difference(lanes: &[Lane], cards: &[CardFacts]) -> Option<KeysetId>
+    ensures { result ≡ issued_difference cards.now (histories_of lanes.now) }
+{
+    for card in cards {
         let keyset = keyset_of_card(lanes, card);
         if keyset.is_some() {
             return keyset;
+        }
+    }
+    None
+}
+
+/// The first of the keysets that are put later which a lane has opened with other facts.
+fn later_difference(lanes: &[Lane], later: &[(KeysetId, KeysetFacts)]) -> Option<KeysetId>
+    ensures { result ≡ later_difference later.now (histories_of lanes.now) }
+{
+    for (keyset, facts) in later {
+        if is_opened_otherwise(lanes, *keyset, facts) {
+            return Some(*keyset);
         }
     }
     None

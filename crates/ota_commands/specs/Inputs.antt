@@ -1,16 +1,12 @@
 -- What the inputs of a command say.
 use Rattle.std.specs.Prelude.{◌≡◌, ℕ, ◌<◌, ◌^◌, nat_le, Bool, IsTrue, if◌then◌else◌, Option, Some, None, IfSome, Result, Ok, Err, List, length, All}
-use Rattle.std.specs.Option.{ok_or}
 use Rattle.ota_io.specs.Calls.{HasRisen}
 use Rattle.ota_io.specs.Octets.{text_limit, TakesAtMost}
 use Rattle.ota_core.specs.declared.jobs.Job.{Job}
 use Rattle.plan_reader.specs.Jobs.{are_distinct}
-use Rattle.plan_reader.specs.NarrowPlan.{plan_of}
-use Rattle.plan_reader.specs.NarrowJobs.{jobs_of}
+use Rattle.plan_reader.specs.PlanTable.{plan_of}
+use Rattle.plan_reader.specs.JobRows.{jobs_of}
 use Rattle.plan_reader.specs.declared.plans.Plan.{Plan}
-use Rattle.plan_reader.specs.declared.tables.Table.TheVariants.{Top}
-use Rattle.plan_reader.specs.declared.tables.Field.TheVariants.{Text}
-use Rattle.plan_reader.specs.declared.columns.Column.TheVariants.{Header}
 use Rattle.lane_session.specs.Lanes.{HasScript}
 use Rattle.ota_commands.specs.declared.faults.Which.{Which}
 use Rattle.ota_commands.specs.declared.faults.Which.TheVariants as which
@@ -39,14 +35,22 @@ IsReadWithin tells left old new = IsTrue (tells old) → TakesAtMost 8388609 (le
 abbrev pub text_reading : Which → List ℕ → Result (List ℕ) Fault
 text_reading of octets = if nat_le (length octets) text_limit then Ok octets else Err (fault.InputTooLong of)
 
+-- what a reading says, or the fault of the command by its own
+abbrev pub or_fault : {T F : Type 0} → (F → Fault) → Result T F → Result T Fault
+or_fault refusal (Ok value) = Ok value
+or_fault refusal (Err refused) = Err (refusal refused)
+
 -- the plan that an input says, or the fault
 abbrev pub plan_reading : List ℕ → Result Plan Fault
-plan_reading octets = if nat_le (length octets) text_limit then ok_or (plan_of octets) (fault.PlanRefused Top 0 Text) else Err (fault.InputTooLong which.Plan)
+plan_reading octets =
+    if nat_le (length octets) text_limit then or_fault (λ refused. fault.PlanRefused refused.0 refused.1 refused.2) (plan_of octets)
+    else Err (fault.InputTooLong which.Plan)
 
 -- the jobs that an input lists, or the fault
 abbrev pub jobs_reading : Plan → List ℕ → Result (List Job) Fault
 jobs_reading plan octets =
-    if nat_le (length octets) text_limit then ok_or (jobs_of plan octets) (fault.JobsRefused 0 Header) else Err (fault.InputTooLong which.Jobs)
+    if nat_le (length octets) text_limit then or_fault (λ refused. fault.JobsRefused refused.0 refused.1) (jobs_of plan octets)
+    else Err (fault.InputTooLong which.Jobs)
 
 -- the value is what the input says
 abbrev pub Says : {T : Type 0} → (List ℕ → Result T Fault) → Input → T → Type 0

@@ -1,9 +1,8 @@
+pub mod PlanIndexLemmas
+pub mod RecordLemmas
+pub mod PlanTableLemmas
+pub mod PlaceLemmas
+pub mod DocumentLemmas
 pub mod NumberLemmas
-pub mod TextLemmas
 pub mod HexadecimalLemmas
-pub mod DecimalLemmas
-pub mod RowLemmas
-pub mod DistinctLemmas
-pub mod PlanLaws
-pub mod CellLaws
-pub mod JobsLaws
+pub mod JobRowLemmas

@@ -4,6 +4,13 @@ pub mod Number
 pub mod Hexadecimal
 pub mod Plan
 pub mod Jobs
-pub mod NarrowPlan
-pub mod NarrowJobs
-pub mod RowCells
+pub mod Check
+pub mod FieldValue
+pub mod PlanTable
+pub mod JobRows
+pub mod TableList
+pub mod CardPlaces
+pub mod KeysetPlaces
+pub mod RowsLeft
+pub mod PlanPlaces
+pub mod RowStop

@@ -30,6 +30,8 @@ field_word field.Kid = codes "kid"
 field_word field.Cipher = codes "cipher"
 field_word field.Mode = codes "mode"
 field_word field.Base = codes "base"
+field_word field.Wide = codes "wide"
+field_word field.Put = codes "put"
 
 -- a column's name
 abbrev pub column_word : Column → List ℕ

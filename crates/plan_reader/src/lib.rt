@@ -1,23 +1,35 @@
 //! Reads the plan of a campaign and the list of its jobs.
 //!
-//! A text has one reading or none, and is refused exactly where it has none. For now both texts have one narrow form:
-//! a plan of one card with one keyset in eight fixed lines, and a list of at most 100 jobs without quotes.
+//! A plan is a TOML document: a campaign's number, a table for each card and one for each keyset. A list of jobs is CSV: a
+//! header and a row for each job. Octets have one reading or a first fault, which names its place, and the answer is
+//! exactly that one; want of memory alone may come in its place.
 #![tactic(auto)]
 
+mod card_entries;
+mod card_table;
 mod columns;
+mod documents;
+mod field_values;
 mod hexadecimals;
 mod job_lists;
-mod narrow_jobs;
-mod narrow_plan;
-mod numbers;
-mod plans;
-mod tables;
+mod job_rows;
 #[cfg(test)]
-mod tests;
-mod texts;
+mod job_tests;
+mod job_table;
+mod keyset_entries;
+mod keyset_table;
+mod numbers;
+mod plan_documents;
+mod plan_index;
+#[cfg(test)]
+mod plan_tests;
+mod plans;
+mod records;
+mod tables;
 
 pub use columns::Column;
 pub use job_lists::{JobsErr, read_jobs};
 pub use numbers::number;
-pub use plans::{CardList, Plan, PlanErr, read_plan};
+pub use plan_documents::read_plan;
+pub use plans::{CardList, LaterList, Plan, PlanErr};
 pub use tables::{Field, Table};

@@ -1,6 +1,6 @@
 ghost use Rattle.std.specs.Prelude.{◌≡◌, ◌≤◌, length, IsTrue, IfSome};
 ghost use Rattle.std.specs.Str.Parse.{digits_value};
-ghost use Rattle.plan_reader.specs.Number.{number_of, plain_number_of, is_numeral, are_digits, has_leading_zero};
+ghost use Rattle.plan_reader.specs.Number.{number_of, is_numeral, are_digits};
 
 /// The number of at most `most` that a numeral of at most `width` digits writes; zeros may stand in front.
 #[tactic(auto, unfolding(crate::specs::Number::number_of))]
@@ -14,26 +14,6 @@ pub fn number(digits: &[u8], width: usize, most: u64) -> Option<u64>
     }
     let number = value(digits);
     if number <= most { Some(number) } else { None }
-}
-
-/// The number of at most `most` that a numeral of at most `width` digits writes without a zero in front.
-#[tactic(auto, unfolding(crate::specs::Number::plain_number_of))]
-pub(crate) fn plain_number(digits: &[u8], width: usize, most: u64) -> Option<u64>
-    requires { width ≤ 18 }
-    ensures read { result ≡ plain_number_of width most digits.now }
-    ensures below { IfSome result (λ number. number ≤ most) }
-{
-    if has_leading_zero(digits) {
-        None
-    } else {
-        number(digits, width, most)
-    }
-}
-
-fn has_leading_zero(digits: &[u8]) -> bool
-    ensures { result ≡ has_leading_zero digits.now }
-{
-    digits.len() > 1 && digits[0] == b'0'
 }
 
 fn is_numeral(digits: &[u8], width: usize) -> bool

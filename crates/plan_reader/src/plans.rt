@@ -1,19 +1,17 @@
-ghost use Rattle.std.specs.Prelude.{◌≡◌, Some, [], ◌∷◌, ◌++◌, IfOk, IfErr, OnOk, OnErr};
-ghost use Rattle.plan_reader.specs.Plan.{PlanErrComes};
-ghost use Rattle.plan_reader.specs.NarrowPlan.{plan_of, IsPlanText};
-ghost use Rattle.plan_reader.specs.declared.plans.Plan.{Plan};
+ghost use Rattle.std.specs.Prelude.{◌≡◌, [], ◌∷◌, ◌++◌, OnOk, OnErr};
 
-use crate::narrow_plan::narrow_plan;
 use crate::tables::{Field, Table};
-use ota_core::{CardFacts, Memory};
+use ota_core::{CardFacts, KeysetFacts, KeysetId, Memory};
 use std::alloc::Global;
 use std::marker::Model;
 
-/// The plan of a campaign: its number, and the cards that it may run on.
+/// The plan of a campaign: its number, the cards that it may run on, and the keysets that are put on them later.
 #[derive(Debug, Drop)]
 pub struct Plan {
     pub campaign: u32,
     pub cards: CardList,
+    /// The keysets that no card is issued with, in the order of their listing.
+    pub later: LaterList,
 }
 
 /// The cards of a plan in order. Contracts see the list of their facts.
@@ -32,20 +30,10 @@ impl Model for CardList {
 }
 
 impl CardList {
-    pub(crate) fn new(alloc: Global) -> CardList
-        ensures { result ≡ [] }
+    pub(crate) fn from_cards(cards: Vec<CardFacts>) -> CardList
+        ensures { result ≡ cards.items }
     {
-        CardList {
-            cards: Vec::new(alloc),
-        }
-    }
-
-    pub(crate) fn push(&mut self, card: CardFacts) -> Result<(), Memory>
-        ensures ok { OnOk result (self.new ≡ self.old ++ card ∷ []) }
-        ensures err { OnErr result (self.new ≡ self.old) }
-    {
-        self.cards.push(card)?;
-        Ok(())
+        CardList { cards }
     }
 
     /// The cards in order.
@@ -53,6 +41,47 @@ impl CardList {
         ensures { result.now ≡ self.now }
     {
         self.cards.as_slice()
+    }
+}
+
+/// The keysets of a plan that are put on its cards later, in order. Contracts see the list of them.
+#[derive(Debug, Drop)]
+pub struct LaterList {
+    keysets: Vec<(KeysetId, KeysetFacts)>,
+}
+
+impl Model for LaterList {
+    ghost use Rattle.std.specs.Prelude.{List};
+    ghost use Rattle.ota_core.specs.Keyset.{Keyset};
+    ghost use Rattle.ota_core.specs.declared.keysets.KeysetFacts.{KeysetFacts};
+
+    ghost Value = { List (Keyset × KeysetFacts) };
+
+    ghost view = { λ l. l.keysets.items };
+}
+
+impl LaterList {
+    pub(crate) fn new(alloc: Global) -> LaterList
+        ensures { result ≡ [] }
+    {
+        LaterList {
+            keysets: Vec::new(alloc),
+        }
+    }
+
+    pub(crate) fn push(&mut self, keyset: KeysetId, facts: KeysetFacts) -> Result<(), Memory>
+        ensures ok { OnOk result (self.new ≡ self.old ++ (keyset, facts) ∷ []) }
+        ensures err { OnErr result (self.new ≡ self.old) }
+    {
+        self.keysets.push((keyset, facts))?;
+        Ok(())
+    }
+
+    /// The keysets in order.
+    pub fn as_slice(&self) -> &[(KeysetId, KeysetFacts)]
+        ensures { result.now ≡ self.now }
+    {
+        self.keysets.as_slice()
     }
 }
 
@@ -77,12 +106,3 @@ impl From<Memory> for PlanErr {
     }
 }
 
-/// Reads a plan. It is refused exactly where the octets have no reading.
-pub fn read_plan(alloc: Global, octets: &[u8]) -> Result<Plan, PlanErr>
-    ensures ok { IfOk result (λ plan. plan_of octets.now ≡ Some plan) }
-    ensures err { IfErr result (λ err. PlanErrComes (plan_of octets.now) err) }
-    ensures read { IfOk result (λ plan. IsPlanText plan octets.now) }
-    ensures spelled { (plan : Plan) → IsPlanText plan octets.now → plan_of octets.now ≡ Some plan }
-{
-    narrow_plan(alloc, octets)
-}

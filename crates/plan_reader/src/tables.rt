@@ -28,6 +28,8 @@ pub enum Field {
     Cipher,
     Mode,
     Base,
+    Wide,
+    Put,
 }
 
 impl fmt::Display for Table {
@@ -68,6 +70,8 @@ impl fmt::Display for Field {
             Field::Cipher => f.write_str("cipher"),
             Field::Mode => f.write_str("mode"),
             Field::Base => f.write_str("base"),
+            Field::Wide => f.write_str("wide"),
+            Field::Put => f.write_str("put"),
         }
     }
 }

@@ -17,7 +17,7 @@ loop-job-init g c = (
 )
 
 abbrev no_plan : Plan
-no_plan = record { campaign = 0; cards = [] }
+no_plan = record { campaign = 0; cards = []; later = [] }
 
 -- the lane of the row is there
 lane-within : (g : _) (c : goal.After-index-sites-lane g) → c.lane_of-lane.result < length c.args.lanes.now

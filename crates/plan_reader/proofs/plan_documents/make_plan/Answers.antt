@@ -1,0 +1,34 @@
+use Rattle.std.proofs.Common.{◌≡◌, ◌∙◌, sym, ◌∷◌, [], ◌++◌, take}
+use Rattle.std.proofs.lemmas.List.{take_more}
+use Rattle.plan_reader.proofs.PlanTableLemmas.{not-before, not-issued, all-more-issued, no-more-later, all-same-issued, more-later}
+use Rattle.plan_reader.proofs.plan_documents.make_plan.Goals as goal
+use Rattle.plan_reader.proofs.plan_documents.make_plan.Goals.{then-listing+in_ok-push, else-listing+in_ok-cards}
+
+pub with_keyset-requires : goal.with_keyset-requires
+with_keyset-requires c =
+    let listings = c.as_slice-listing-items.result.now in
+    let i = c.loop-listing.listing-index in
+    let own = rw (← c.as_slice-listing-items.ensures.keysets) at c.as_slice-listing-items.ensures.distinct in
+    let apart = not-before listings i c.listing-item.result own c.loop-listing-test.true in
+    record {
+      new = rw c.loop-listing.invariant.0 (not-issued c.listing-item.result.id (take i listings) c.args.cards (rw (← c.listing-item.is) at apart));
+    }
+
+pub loop-listing-preserved : goal.loop-listing-preserved
+loop-listing-preserved c =
+    let listings = c.as_slice-listing-items.result.now in
+    let i = c.loop-listing.listing-index in
+    let done = take i listings in
+    let listing = c.listing-item.result in
+    let (cards, later) = c.loop-listing.invariant in
+    rw (take_more listings i listing c.loop-listing-test.true, ← c.listing-item.is)
+    (elim c.if-listing.branch [
+      | then-listing+in_ok-push w ↦ (
+        rw (w.cards-is, cards) (all-same-issued done listing c.args.cards w.if-listing.true),
+        rw (w.later-is, w.in_ok-push.ensures.ok, later) (more-later done listing w.if-listing.true),
+      )
+      | else-listing+in_ok-cards w ↦ (
+        rw (w.cards-is, w.in_ok-cards.ensures, cards) (all-more-issued done listing c.args.cards w.if-listing.false),
+        rw (w.later-is, later) (no-more-later done listing w.if-listing.false),
+      )
+    ])

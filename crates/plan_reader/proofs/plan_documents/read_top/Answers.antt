@@ -1,0 +1,6 @@
+use Rattle.plan_reader.proofs.PlanTableLemmas.{bare-cards}
+use Rattle.plan_reader.specs.TableList.{tables_pointed}
+use Rattle.plan_reader.proofs.plan_documents.read_top.Goals as goal
+
+pub make_plan-requires : goal.make_plan-requires
+make_plan-requires c = record { bare = rw c.in_ok-cards.ensures.cards (bare-cards (tables_pointed c.as_slice.result.now)) }
