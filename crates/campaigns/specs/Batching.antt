@@ -5,7 +5,7 @@ use Rattle.ota_core.specs.Keyset.{Keyset}
 use Rattle.ota_core.specs.declared.jobs.Job.{Job}
 use Rattle.keyset_book.specs.Tables.{keyset_cmp}
 use Rattle.senders.specs.declared.pieces.Work.{Work}
-use Rattle.campaigns.specs.WorkList.{lane_of, jobs_of_lane, pieces_of}
+use Rattle.campaigns.specs.WorkList.{jobs_of_lane, pieces_of}
 use Rattle.campaigns.specs.declared.batches.LaneEnd.{LaneEnd}
 
 -- how many jobs are counted on a keyset

@@ -1,11 +1,10 @@
 -- The work list of a campaign: the jobs for which a counter is to be reserved, in pieces of one lane each.
-use Rattle.std.specs.Prelude.{◌≡◌, ℕ, ◌+◌, ◌%◌, nat_le, max, Bool, true, false, ◌==◌, ◌&&◌, if◌then◌else◌, List, [], ◌∷◌, ◌++◌, length, take, reverse, slice_index_or}
+use Rattle.std.specs.Prelude.{ℕ, ◌+◌, ◌%◌, nat_le, max, Bool, true, false, ◌==◌, ◌&&◌, if◌then◌else◌, List, [], ◌∷◌, ◌++◌, length, take, reverse, slice_index_or}
 use Rattle.std.specs.List.{filter, AllZip}
 use Rattle.ota_core.specs.Keyset.{Keyset, is_same_keyset}
 use Rattle.ota_core.specs.History.{next_counter, LAST_COUNTER}
 use Rattle.ota_core.specs.Questions.{state_of}
 use Rattle.ota_core.specs.Outcome.{outcome_of}
-use Rattle.ota_core.specs.declared.cards.CardId.{CardId}
 use Rattle.ota_core.specs.declared.jobs.Job.{Job}
 use Rattle.ota_core.specs.declared.entries.Entry.{Entry}
 use Rattle.ota_core.specs.declared.questions.KeysetState.{KeysetState}

@@ -1,4 +1,4 @@
-use Rattle.std.proofs.Common.{◌≡◌, ◌+◌, ◌*◌, ap, sym, ◌∙◌, refl, arith, append_assoc}
+use Rattle.std.proofs.Common.{◌+◌, ◌*◌, ap, sym, ◌∙◌, refl, arith, append_assoc}
 use Rattle.campaigns.specs.Drill.{state_at, next_state}
 use Rattle.campaigns.proofs.DrillLemmas.{state_next, draw_is}
 use Rattle.campaigns.proofs.drill.put_job.Goals as goal

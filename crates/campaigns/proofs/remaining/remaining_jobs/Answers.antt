@@ -1,4 +1,4 @@
-use Rattle.std.proofs.Common.{◌%◌, List, length, get_or, sym, arith, rules}
+use Rattle.std.proofs.Common.{◌%◌, List, length, sym, arith}
 use Rattle.std.proofs.lemmas.Nat.{mod_below}
 use Rattle.ota_core.specs.declared.entries.Entry.{Entry}
 use Rattle.keyset_book.specs.Book.{StandsFor}
