@@ -15,7 +15,7 @@ use Rattle.ota_core.specs.declared.keysets.KeysetFacts.{KeysetFacts}
 use Rattle.ota_core.specs.declared.entries.Entry.{Entry}
 use Rattle.ota_core.specs.declared.entries.Entry.TheVariants.{Open, Reserve, Done, Refused, Close}
 use Rattle.ota_core.specs.declared.entries.Illegal.{Illegal}
-use Rattle.keyset_book.specs.Tables.{known_in, has_keyset_place, FillsKeyset, reserved_in, has_job_place, FillsJob, is_same_counter, standing_in, has_counter_place, FillsCounter, counter_cmp, keyset_cmp}
+use Rattle.keyset_book.specs.Tables.{known_in, has_keyset_place, FillsKeyset, reserved_in, has_job_place, FillsJob, is_same_counter, standing_in, has_counter_place, FillsCounter, in_row, row_cmp, row_of, column_of, keyset_cmp}
 use Rattle.keyset_book.specs.Book.{known_by, known_from, standing_by, standing_of, IsBookOf, has_room_for}
 use Rattle.keyset_book.specs.Entering.{Opens, Reserves, Settles, Closes, Enters}
 use Rattle.keyset_book.specs.declared.keyset_table.Known.{Known}
@@ -34,6 +34,10 @@ both_true false second h = cc
 pub placed : {V : Type 0} (place : Option (Option V)) (value : V) → option_flatten place ≡ Some value → is_some place ≡ true
 placed None value is = cc
 placed (Some place) value is = refl
+
+placed-row : (row : Option (List (Option Standing))) (column : ℕ) (value : Standing) → in_row row column ≡ Some value → is_some row ≡ true
+placed-row None column value is = cc
+placed-row (Some row) column value is = refl
 
 -- what is known of a keyset behind an Open
 pub known-open : (facts : KeysetFacts) (same : Bool) (found : Option KeysetFacts) (last : Option ℕ) (closed : Bool) → (same ≡ true → closed ≡ false)
@@ -116,7 +120,7 @@ module _ (past : List Entry) (old new : Book) (legal : IsLegalPast past) (says :
   -- a reserved counter has a place
   pub reserved_placed : (counter : Reservation) → list_any (is_reserve_of counter) past ≡ true → has_counter_place old.counters counter ≡ true
   reserved_placed counter reserved =
-      placed (get counter_cmp old.counters.places counter) (standing_of (find (is_settlement_of counter) past)) (says.counters counter ∙ rw reserved refl)
+      placed-row (get row_cmp old.counters.rows (row_of counter)) (column_of counter) (standing_of (find (is_settlement_of counter) past)) (says.counters counter ∙ rw reserved refl)
 
   pub enters_done : (by moment : ℕ) (keyset : Keyset) (counter : ℕ) (answer : List ℕ) → broken past (Done by moment keyset counter answer) ≡ None
       → Settles old (record { keyset = keyset; counter = counter }) standing.Done new → new.moment ≡ moment → IsBookOf (Done by moment keyset counter answer ∷ past) new

@@ -1,3 +1,4 @@
+pub mod CounterLemmas
 pub mod PastLemmas
 pub mod RuleLemmas
 pub mod EnteringLemmas

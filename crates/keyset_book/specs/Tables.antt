@@ -1,5 +1,5 @@
 -- What the tables of a book hold.
-use Rattle.std.specs.Prelude.{◌≡◌, ℕ, Bool, ◌==◌, ◌&&◌, if◌then◌else◌, Option, Some, None, is_some}
+use Rattle.std.specs.Prelude.{◌≡◌, ℕ, ◌/◌, ◌%◌, Bool, ◌==◌, ◌&&◌, if◌then◌else◌, Option, Some, None, is_some, List, get_or}
 use Rattle.std.specs.Option.{option_flatten}
 use Rattle.std.specs.BTreeMap.{get}
 use Rattle.std.specs.declared.cmp.Ordering.{Ordering}
@@ -9,7 +9,7 @@ use Rattle.ota_core.specs.Entry.{Reservation}
 use Rattle.ota_core.specs.declared.jobs.JobId.{JobId}
 use Rattle.ota_core.specs.contracts.keysets.KeysetIdOrd.TheImpl as keyset_ord
 use Rattle.ota_core.specs.contracts.jobs.JobIdOrd.TheImpl as job_ord
-use Rattle.keyset_book.specs.contracts.counter_table.PlaceOrd.TheImpl as place_ord
+use Rattle.keyset_book.specs.contracts.counter_table.RowIdOrd.TheImpl as row_ord
 use Rattle.keyset_book.specs.declared.keyset_table.Known.{Known}
 use Rattle.keyset_book.specs.declared.keyset_table.KeysetTable.{KeysetTable}
 use Rattle.keyset_book.specs.declared.job_table.JobTable.{JobTable}
@@ -24,9 +24,21 @@ keyset_cmp = (keyset_ord.ghosts).cmp
 abbrev pub job_cmp : JobId → JobId → Ordering
 job_cmp = (job_ord.ghosts).cmp
 
--- the order of counters
-abbrev pub counter_cmp : Reservation → Reservation → Ordering
-counter_cmp = (place_ord.ghosts).cmp
+-- the order of rows
+abbrev pub row_cmp : Reservation → Reservation → Ordering
+row_cmp = (row_ord.ghosts).cmp
+
+-- the row in which a counter stands, and its place there, from 0
+abbrev pub row_of : Reservation → Reservation
+row_of counter = record { keyset = counter.keyset; counter = counter.counter / 8 }
+
+abbrev pub column_of : Reservation → ℕ
+column_of counter = counter.counter % 8
+
+-- what stands in a row, where it is made
+abbrev pub in_row : Option (List (Option Standing)) → ℕ → Option Standing
+in_row None column = None
+in_row (Some row) column = get_or row column None
 
 -- the same counter of the same keyset
 abbrev pub is_same_counter : Reservation → Reservation → Bool
@@ -58,11 +70,15 @@ FillsJob old job reservation new = (other : JobId) → reserved_in new other ≡
 
 -- how the counter stands, where it is reserved
 abbrev pub standing_in : CounterTable → Reservation → Option Standing
-standing_in table counter = option_flatten (get counter_cmp table.places counter)
+standing_in table counter = in_row (get row_cmp table.rows (row_of counter)) (column_of counter)
 
 -- there is a place for the counter
 abbrev pub has_counter_place : CounterTable → Reservation → Bool
-has_counter_place table counter = is_some (get counter_cmp table.places counter)
+has_counter_place table counter = is_some (get row_cmp table.rows (row_of counter))
+
+-- the row is filled, and each other row stays as it was
+abbrev pub FillsRow : CounterTable → Reservation → List (Option Standing) → CounterTable → Type 0
+FillsRow old id filled new = (other : Reservation) → get row_cmp new.rows other ≡ (if is_same_counter id other then Some filled else get row_cmp old.rows other)
 
 -- the counter's place is filled, and each other counter stays as it was
 abbrev pub FillsCounter : CounterTable → Reservation → Standing → CounterTable → Type 0

@@ -1,8 +1,9 @@
 //! The reserved counters of a book.
 
-ghost use Rattle.std.specs.Prelude.{◌≡◌, true, None, is_ok, OnOk};
+ghost use Rattle.std.specs.Prelude.{◌≡◌, ◌<◌, true, None, Some, is_some, is_ok, length, slice_set, OnOk};
+ghost use Rattle.std.specs.BTreeMap.{get};
 ghost use Rattle.ota_core.specs.Entry.{Reservation};
-ghost use Rattle.keyset_book.specs.Tables.{standing_in, has_counter_place, FillsCounter};
+ghost use Rattle.keyset_book.specs.Tables.{row_cmp, row_of, column_of, standing_in, has_counter_place, FillsRow, FillsCounter};
 
 use ota_core::{Counter, KeysetId, Memory, Reservation};
 use std::alloc::Global;
@@ -20,27 +21,32 @@ pub(crate) enum Standing {
     Refused(u8),
 }
 
-/// A counter of a keyset, in the order of keysets and then of counters.
+/// How many counters that follow one another stand in a row.
+const ROW: usize = 8;
+
+/// A row of counters of a keyset, in the order of keysets and then of rows. Its number is that of its counters divided by
+/// their number in a row.
 #[derive(Clone, Copy, Debug, PartialEq, Eq, PartialOrd, Ord)]
-pub(crate) struct Place {
+pub(crate) struct RowId {
     keyset: KeysetId,
-    counter: Counter,
+    row: Counter,
 }
 
-impl Model for Place {
+impl Model for RowId {
     ghost use Rattle.ota_core.specs.Entry.{Reservation};
 
     ghost Value = { Reservation };
 
-    ghost view = { λ p. record { keyset = p.keyset; counter = p.counter } };
+    ghost view = { λ r. record { keyset = r.keyset; counter = r.row } };
 
-    ghost inverse = { λ p. record { keyset = p.keyset; counter = p.counter } };
+    ghost inverse = { λ r. record { keyset = r.keyset; row = r.counter } };
 }
 
-/// Each reserved counter of a history, with its settlement. A place may be made before it is filled.
+/// Each reserved counter of a history, with its settlement. A keyset's counters follow one another, so they are kept in
+/// rows. A place may be made before it is filled: its whole row is.
 #[derive(Drop)]
 pub(crate) struct CounterTable {
-    places: BTreeMap<Place, Option<Standing>>,
+    rows: BTreeMap<RowId, [Option<Standing>; ROW]>,
 }
 
 impl CounterTable {
@@ -49,7 +55,7 @@ impl CounterTable {
         ensures { (counter : Reservation) → standing_in result counter ≡ None }
     {
         CounterTable {
-            places: BTreeMap::new(alloc),
+            rows: BTreeMap::new(alloc),
         }
     }
 
@@ -57,8 +63,8 @@ impl CounterTable {
     pub(crate) fn look(&self, counter: Reservation) -> Option<Standing>
         ensures { result ≡ standing_in self.now counter }
     {
-        match self.places.get(&place_of(counter)) {
-            Some(standing) => *standing,
+        match self.rows.get(&row_of(counter)) {
+            Some(row) => row[column_of(counter)],
             None => None,
         }
     }
@@ -70,11 +76,11 @@ impl CounterTable {
         ensures made { OnOk result (has_counter_place self.new counter ≡ true) }
         ensures there { has_counter_place self.old counter ≡ true → is_ok result ≡ true }
     {
-        let place = place_of(counter);
-        if self.places.contains_key(&place) {
+        let row = row_of(counter);
+        if self.rows.contains_key(&row) {
             return Ok(());
         }
-        self.places.insert(place, None)?;
+        self.rows.insert(row, [None; ROW])?;
         Ok(())
     }
 
@@ -83,17 +89,53 @@ impl CounterTable {
         ensures filled { has_counter_place self.old counter ≡ true → FillsCounter self.old counter standing self.new }
         ensures kept { (other : Reservation) → has_counter_place self.old other ≡ true → has_counter_place self.new other ≡ true }
     {
-        if let Some(place) = self.places.get_mut(&place_of(counter)) {
-            *place = Some(standing);
+        let id = row_of(counter);
+        if let Some(row) = self.rows.get(&id) {
+            let filled = with_standing(row, column_of(counter), standing);
+            self.fill_row(id, filled);
+        }
+    }
+
+    /// Fills a row. Where there is none, nothing is done.
+    fn fill_row(&mut self, id: RowId, filled: [Option<Standing>; ROW])
+        ensures filled { is_some (get row_cmp self.old.rows id) ≡ true → FillsRow self.old id filled self.new }
+        ensures kept { (other : Reservation) → is_some (get row_cmp self.old.rows other) ≡ true → is_some (get row_cmp self.new.rows other) ≡ true }
+    {
+        if let Some(row) = self.rows.get_mut(&id) {
+            *row = filled;
         }
     }
 }
 
-fn place_of(counter: Reservation) -> Place
-    ensures { result ≡ counter }
+/// The row with a counter that stands so.
+fn with_standing(
+    row: &[Option<Standing>; ROW],
+    column: usize,
+    standing: Standing,
+) -> [Option<Standing>; ROW]
+    requires { column < 8 }
+    ensures filled { result ≡ slice_set row.now column (Some standing) }
+    ensures long { length row.now ≡ 8 }
 {
-    Place {
+    let mut filled = *row;
+    filled[column] = Some(standing);
+    filled
+}
+
+/// The row in which the counter stands.
+fn row_of(counter: Reservation) -> RowId
+    ensures { result ≡ row_of counter }
+{
+    RowId {
         keyset: counter.keyset,
-        counter: counter.counter,
+        row: Counter(counter.counter.0 / ROW as u64),
     }
+}
+
+/// The counter's place in its row, from 0.
+fn column_of(counter: Reservation) -> usize
+    ensures value { result ≡ column_of counter }
+    ensures below { result < 8 }
+{
+    (counter.counter.0 % ROW as u64) as usize
 }
