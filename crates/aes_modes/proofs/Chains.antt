@@ -7,6 +7,7 @@ use Rattle.std.proofs.Math.Seq.{take-add}
 use Rattle.std.proofs.lemmas.Nat.{xor_comm}
 use Rattle.std.proofs.lemmas.Bool.{cases_lt}
 use Rattle.gf_aes.specs.Cipher.{IsBlock, aes_decrypts, aes_encrypts, xor_lists}
+use Rattle.gf_aes.proofs.Blocks.{always-block}
 use Rattle.gf_aes.proofs.Inverse.{IsBlock-aes_encrypts, IsBlock-xor_lists, aes_decrypts-aes_encrypts, xor_lists-twice}
 use Rattle.aes_modes.specs.Modes.{AreOctets, block_before, cbc_blocks, cbc_of, cbc_plain_of, chained, plain_block, plain_blocks, text_block, zero_block}
 
@@ -108,12 +109,21 @@ chained-IsBlock key m (suc n) h fits =
     IsBlock-xor_lists (chained key m n) (text_block m n) (chained-IsBlock key m n h (omega arith)) (text_block-IsBlock m n h (omega arith))
     )
 
-length-cbc_blocks : (key m : List ℕ) (n : ℕ) → AreOctets m → 16 * n ≤ length m → length (cbc_blocks key m n) ≡ 16 * n
+length-chained : (key m : List ℕ) (n : ℕ) → length (chained key m n) ≡ 16
+unfolding chained
+length-chained key m zero = refl
+length-chained key m (suc n) = (always-block key (xor_lists (chained key m n) (text_block m n))).0
+
+pub length-cbc_blocks : (key m : List ℕ) (n : ℕ) → length (cbc_blocks key m n) ≡ 16 * n
 unfolding cbc_blocks
-length-cbc_blocks key m zero h fits = refl
-length-cbc_blocks key m (suc n) h fits =
-    let next : 16 * (n + 1) ≤ length m = omega arith in
-    omega (arith, length-append (cbc_blocks key m n) (chained key m (n + 1)), length-cbc_blocks key m n h (omega arith), (chained-IsBlock key m (n + 1) h next).0)
+length-cbc_blocks key m zero = refl
+length-cbc_blocks key m (suc n) =
+    omega (arith, length-append (cbc_blocks key m n) (chained key m (n + 1)), length-cbc_blocks key m n, length-chained key m (n + 1))
+
+-- CBC keeps the length of a text of whole blocks
+pub length-cbc_of : (key m : List ℕ) → length m % 16 ≡ 0 → length (cbc_of key m) ≡ length m
+unfolding cbc_of
+length-cbc_of key m whole = omega (arith, length-cbc_blocks key m (length m / 16), whole)
 
 -- each block of the cipher text is a link of the chain
 text_block-cbc_blocks : (key m : List ℕ) (n i : ℕ) → AreOctets m → 16 * n ≤ length m → i < n → text_block (cbc_blocks key m n) i ≡ chained key m (i + 1)
@@ -123,7 +133,7 @@ text_block-cbc_blocks key m (suc n) i h fits below =
     let c : List ℕ = cbc_blocks key m n in
     let x : List ℕ = chained key m (n + 1) in
     let next : 16 * (n + 1) ≤ length m = omega arith in
-    let len : length c ≡ 16 * n = length-cbc_blocks key m n h (omega arith) in
+    let len : length c ≡ 16 * n = length-cbc_blocks key m n in
     let last : length x ≡ 16 = (chained-IsBlock key m (n + 1) h next).0 in
     elim (cases_lt i n) [
       | inl earlier ↦
@@ -182,6 +192,6 @@ unfolding cbc_of cbc_plain_of
 cbc_plain_of-cbc_of key m h whole =
     let n : ℕ = length m / 16 in
     let fits : 16 * n ≤ length m = omega arith in
-    let count : length (cbc_blocks key m n) / 16 ≡ n = omega (arith, length-cbc_blocks key m n h fits) in
+    let count : length (cbc_blocks key m n) / 16 ≡ n = omega (arith, length-cbc_blocks key m n) in
     ap (plain_blocks key (cbc_blocks key m n)) count ∙ plain_blocks-cbc_blocks key m n n h fits (omega arith)
     ∙ take_all (16 * n) m (omega arith)

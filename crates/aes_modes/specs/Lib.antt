@@ -1,3 +1,4 @@
 pub mod KeyPair
+pub mod Laws
 pub mod Modes
 pub mod Streams

@@ -4,10 +4,12 @@
 
 mod cbc;
 mod key_pair;
+mod laws;
 mod mac;
 mod mac_stream;
 
 pub use cbc::{cbc_decrypt, cbc_encrypt};
 pub use key_pair::Keys;
+pub use laws::{cbc_is_undone, cmac_is_a_block};
 pub use mac::{cmac, cmac8};
 pub use mac_stream::MacStream;

@@ -1,4 +1,11 @@
 pub mod EntriesLemmas
+pub mod FormLemmas
+pub mod FreshLemmas
+pub mod NamedLemmas
+pub mod NewLemmas
+pub mod PlaceLemmas
 pub mod RoomLemmas
+pub mod SizeLemmas
+pub mod SoundLemmas
 pub mod TreeLemmas
 pub mod WithinLemmas

@@ -124,7 +124,7 @@ stays path q = not (is_within path q)
 alike : (path q x : List ℕ) → by_path q x ≡ Equal → stays path x ≡ stays path q
 alike path q x e = ap (stays path) (sym (distinct q x e))
 
-get-kept : (path : List ℕ) (files : Tree) (q : List ℕ) → map.get (map.retain_keys files (stays path)) q ≡ cond (stays path q) (map.get files q) None
+pub get-kept : (path : List ℕ) (files : Tree) (q : List ℕ) → map.get (map.retain_keys files (stays path)) q ≡ cond (stays path q) (map.get files q) None
 get-kept path files q = map.get-retain_keys files (stays path) q (alike path q)
 
 gone : (b s : Bool) (found : Option File) → (b ≡ true → s ≡ false) → cond s (cond b None found) None ≡ cond s found None

@@ -3,4 +3,5 @@ pub mod Fresh
 pub mod Kind
 pub mod Path
 pub mod Replies
+pub mod Sound
 pub mod State

@@ -1,11 +1,12 @@
 //! The files of a card, and what is selected.
 
-ghost use Rattle.std.specs.Prelude.{◌≡◌, ◌+◌, ◌*◌, ◌^◌, ◌<◌, ◌≤◌, ◌≢◌, ◌++◌, ◌==◌, if◌then◌else◌, length, slice_index, [], None, option_copied, OnErr, IfOk, IfSome, IsOk};
+ghost use Rattle.std.specs.Prelude.{◌≡◌, ◌+◌, ◌*◌, ◌^◌, ◌<◌, ◌≤◌, ◌≢◌, ◌++◌, ◌==◌, if◌then◌else◌, length, slice_index, [], None, false, is_some, true, option_copied, OnErr, IfOk, IfSome, IsOk};
 ghost use Rattle.apdu_codec.specs.Reply.{answered};
 ghost use Rattle.card_files.specs.Path.{word_at, ids_of};
 ghost use Rattle.card_files.specs.Replies.{Replies};
 ghost use Rattle.card_files.specs.Commands as command;
-ghost use Rattle.card_files.specs.Kind.{HasOctets};
+ghost use Rattle.card_files.specs.Kind.{IsSized, deepest};
+ghost use Rattle.card_files.specs.Sound.{IsNew, IsSound};
 ghost use Rattle.card_files.specs.State.{room_of};
 ghost use Rattle.file_records.specs.File.{size_in};
 ghost use Rattle.std.specs.FinMap as map;
@@ -37,12 +38,15 @@ pub struct Files {
 impl Model for Files {
     ghost use Rattle.file_records.specs.contracts.file.File as file;
     ghost use Rattle.card_files.specs.State.{State, state_code};
+    ghost use Rattle.card_files.specs.Sound.{IsSound};
 
     ghost Value = { State };
 
     ghost coded = { state_code file.the_row.coded };
 
     ghost view = { λ files. record { files = files.tree; folder = files.folder; ef = files.ef } };
+
+    ghost invariant = { λ files. IsSound (record { files = files.tree; folder = files.folder; ef = files.ef }) };
 }
 
 /// What a command that was done gives.
@@ -54,7 +58,8 @@ impl Files {
 
     /// The files of a new card, with the MF selected.
     pub fn fresh(alloc: Global) -> Result<Files, Memory>
-        ensures { IfOk result (λ files. files ≡ fresh_state) }
+        ensures files { IfOk result (λ files. files ≡ fresh_state) }
+        ensures sound { IfOk result IsSound }
     {
         let tree = fresh_tree(alloc)?;
         Ok(Files {
@@ -67,7 +72,8 @@ impl Files {
 
     /// Selects the MF, and no EF.
     pub fn select_mf(&mut self)
-        ensures { self.new ≡ record self.old { folder = []; ef = None } }
+        ensures selected { self.new ≡ record self.old { folder = []; ef = None } }
+        ensures sound { IsSound self.new }
     {
         self.folder = Path::mf();
         self.ef = None;
@@ -75,13 +81,15 @@ impl Files {
 
     /// The octets of the transparent EF at the end of a path from the MF.
     pub fn octets_of(&self, path: &[u16]) -> Option<&[u8]>
-        ensures { option_copied result ≡ octets_at self.now.files path.now }
+        ensures octets { option_copied result ≡ octets_at self.now.files path.now }
+        ensures sound { IsSound self.now }
     {
+        let tree = &self.tree;
         let path = match Path::of(path) {
             Some(path) => path,
             None => return None,
         };
-        match self.tree.get(&path) {
+        match tree.get(&path) {
             Some(file) => file.octets_held(),
             None => None,
         }
@@ -205,9 +213,8 @@ impl Files {
     /// The file that CREATE FILE is to make.
     fn wanted(&self, p1: u8, p2: u8, octets: &[u8]) -> Result<NewFile, Refusal>
         ensures wanted { result ≡ command.wanted self.now p1 p2 (length octets.now) octets.now }
-        ensures free { IfOk result (λ new. map.get self.now.files new.path ≡ None) }
-        ensures some { IfOk result (λ new. HasOctets new.kind) }
-        ensures room { IfOk result (λ new. room_of self.now.files + size_in (command.contents_of new.kind) ≤ 32768) }
+        ensures new { IfOk result (λ new. IsNew self.now.files new.path (command.contents_of new.kind)) }
+        ensures sized { IfOk result (λ new. IsSized new.kind) }
     {
         if !(p1 == 0 && p2 == 0) {
             return Err(Refusal::WrongParameters);
@@ -247,9 +254,8 @@ impl Files {
     }
 
     fn add(&mut self, new: NewFile) -> Result<(), Memory>
-        requires free { map.get self.old.files new.path ≡ None }
-        requires some { HasOctets new.kind }
-        requires room { room_of self.old.files + size_in (command.contents_of new.kind) ≤ 32768 }
+        requires new { IsNew self.old.files new.path (command.contents_of new.kind) }
+        requires sized { IsSized new.kind }
         ensures ok { IfOk result (λ _. self.new ≡ command.with_new self.old new.path (command.contents_of new.kind)) }
         ensures err { OnErr result (self.new ≡ self.old) }
     {
@@ -286,10 +292,11 @@ impl Files {
 
     /// Takes the file with this path away, with all below it.
     fn take_away(&mut self, path: &Path)
+        requires { command.is_within path.now self.old.folder ≡ false }
         ensures { self.new ≡ command.without self.old path.now }
     {
-        self.tree.remove(path);
         self.forget(path);
+        self.tree.remove(path);
     }
 
     /// Where the current EF has this path or lies below it, none is current.
@@ -326,19 +333,22 @@ impl Files {
     /// The file that SELECT names.
     fn named(&self, p1: u8, octets: &[u8]) -> Option<Path>
         requires { 2 ≤ length octets.now }
-        ensures { result ≡ (if p1 == 0 then command.seen_from self.now (word_at octets.now 0) else command.at_path self.now.files [] (ids_of octets.now)) }
+        ensures there { IfSome result (λ path. is_some (map.get self.now.files path) ≡ true) }
+        ensures named { result ≡ (if p1 == 0 then command.seen_from self.now (word_at octets.now 0) else command.at_path self.now.files [] (ids_of octets.now)) }
     {
         if p1 == 0 {
             self.seen(word(octets, 0))
         } else {
-            self.at_path(octets)
+            self.tree.at_path(octets)
         }
     }
 
     /// The file of an identifier, seen from the current folder.
     fn seen(&self, id: u16) -> Option<Path>
-        ensures { result ≡ command.seen_from self.now id }
+        ensures seen { result ≡ command.seen_from self.now id }
+        ensures there { IfSome result (λ path. is_some (map.get self.now.files path) ≡ true) }
     {
+        let above = self.folder.above();
         if id == MF {
             return Some(Path::mf());
         }
@@ -346,7 +356,6 @@ impl Files {
         if child.is_some() {
             return child;
         }
-        let above = self.folder.above();
         if id == above.id() {
             return Some(above);
         }
@@ -356,23 +365,8 @@ impl Files {
         self.tree.folder_in(&above, id)
     }
 
-    /// The file at the end of a path from the MF, each a child of the one before.
-    fn at_path(&self, octets: &[u8]) -> Option<Path>
-        ensures { result ≡ command.at_path self.now.files [] (ids_of octets.now) }
-    {
-        let mut path = Path::mf();
-        let mut rest = octets;
-        while let [_, _, others @ ..] = rest {
-            path = match self.tree.file_in(&path, word(rest, 0)) {
-                Some(child) => child,
-                None => return None,
-            };
-            rest = others;
-        }
-        Some(path)
-    }
-
     fn make_current(&mut self, path: Path)
+        requires { is_some (map.get self.old.files path) ≡ true }
         ensures { self.new ≡ with_selected self.old path }
     {
         if self.tree.is_folder(&path) {
@@ -529,8 +523,10 @@ fn reply_to(outcome: Result<Out, Refusal>) -> Reply
 
 /// The kind of a new file in a folder that is so deep.
 fn kind_of(depth: usize, kind: u8, width: u8, size: u16) -> Option<Kind>
+    requires { depth ≤ 3 }
     ensures kind { result ≡ command.kind_of depth kind width size }
-    ensures some { IfSome result HasOctets }
+    ensures sized { IfSome result IsSized }
+    ensures deep { IfSome result (λ kind. depth < deepest kind) }
     ensures size { IfSome result (λ kind. size_in (command.contents_of kind) ≡ size) }
 {
     if kind == 1 && width == 0 && size == 0 && depth < FOLDERS_DEEP {
@@ -557,7 +553,7 @@ fn fit(width: u8, size: u16) -> bool
 
 /// What a new file holds.
 fn contents(alloc: Global, kind: Kind) -> Result<Contents, Memory>
-    requires { HasOctets kind }
+    requires { IsSized kind }
     ensures { IfOk result (λ contents. contents ≡ command.contents_of kind) }
 {
     match kind {

@@ -1,9 +1,10 @@
 //! The files of a card by their paths.
 
-ghost use Rattle.std.specs.Prelude.{◌≡◌, ◌+◌, ◌^◌, ◌<◌, ◌≤◌, ◌&&◌, ℕ, List, true, nat_lt, nat_le, None, is_some, not, option_copied, option_map, unwrap_or, IfSome, IfNone, IfOk, OnErr};
+ghost use Rattle.std.specs.Prelude.{◌≡◌, [], ◌+◌, ◌^◌, ◌<◌, ◌≤◌, ◌&&◌, ℕ, List, true, nat_lt, nat_le, None, is_some, not, option_copied, option_map, unwrap_or, IfSome, IfNone, IfOk, OnErr};
 ghost use Rattle.std.specs.BTreeMap.{values};
 ghost use Rattle.std.specs.FinMap as map;
 ghost use Rattle.file_records.specs.File.{size_of};
+ghost use Rattle.card_files.specs.Path.{ids_of};
 ghost use Rattle.card_files.specs.State.{total_of};
 ghost use Rattle.file_records.specs.Made.{Makes, MakesAndGives};
 
@@ -180,6 +181,23 @@ impl Tree {
             Some(path) if self.contains(&path) => Some(path),
             _ => None,
         }
+    }
+
+    /// The file at the end of a path from the MF, each a child of the one before.
+    pub(crate) fn at_path(&self, octets: &[u8]) -> Option<Path>
+        ensures { result ≡ command.at_path self.now [] (ids_of octets.now) }
+    {
+        let mut path = Path::mf();
+        let mut rest = octets;
+        while let [high, low, others @ ..] = rest {
+            let id = 256 * u16::from(*high) + u16::from(*low);
+            path = match self.file_in(&path, id) {
+                Some(child) => child,
+                None => return None,
+            };
+            rest = others;
+        }
+        Some(path)
     }
 
     /// The path of the DF with this identifier in a folder.

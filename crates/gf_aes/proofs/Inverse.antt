@@ -97,7 +97,7 @@ unboxed s b = ap inverse_sub_bytes (unshifted (sub_bytes s) (length-map s sub_by
 
 -- ---- each state has 16 octets
 
-abbrev AreOctets : List ℕ → Type 0
+abbrev pub AreOctets : List ℕ → Type 0
 AreOctets s = (i : ℕ) → slice_index s i < 2 ^ 8
 
 cons-below : (x : ℕ) (s : List ℕ) → x < 2 ^ 8 → AreOctets s → AreOctets (x ∷ s)
@@ -117,7 +117,7 @@ map-below f [] h g i = omega arith
 map-below f (x ∷ s) h g zero = h x (g 0)
 map-below f (x ∷ s) h g (suc i) = map-below f s h (λ j. g (suc j)) i
 
-places-below : (f : ℕ → ℕ) (s : List ℕ) → ((x : ℕ) → f x < 2 ^ 8) → AreOctets (map f s)
+pub places-below : (f : ℕ → ℕ) (s : List ℕ) → ((x : ℕ) → f x < 2 ^ 8) → AreOctets (map f s)
 places-below f [] h i = omega arith
 places-below f (x ∷ s) h zero = h x
 places-below f (x ∷ s) h (suc i) = places-below f s h i
@@ -132,7 +132,7 @@ octets-below w = four-below (w / 2 ^ 24 % 2 ^ 8) (w / 2 ^ 16 % 2 ^ 8) (w / 2 ^ 8
 joined-below : (a b c d : List ℕ) → AreOctets a → AreOctets b → AreOctets c → AreOctets d → AreOctets (a ++ b ++ c ++ d)
 joined-below a b c d ha hb hc hd = append-below (a ++ b ++ c) d (append-below (a ++ b) c (append-below a b ha hb) hc) hd
 
-round_key-below : (w : List ℕ) (r : ℕ) → AreOctets (round_key w r)
+pub round_key-below : (w : List ℕ) (r : ℕ) → AreOctets (round_key w r)
 round_key-below w r =
     joined-below (octets (slice_index w (4 * r))) (octets (slice_index w (4 * r + 1))) (octets (slice_index w (4 * r + 2))) (octets (slice_index w (4 * r + 3))) (octets-below _) (octets-below _) (octets-below _) (octets-below _)
 
@@ -181,7 +181,7 @@ boxed-block s b =
     let octets' : AreOctets (sub_bytes s) = map-below sub_byte s sub_byte-below b.1 in
     (refl, places-below (λ i. slice_index (sub_bytes s) (i % 4 + 4 * ((i / 4 + i % 4) % 4))) (range_with_len 0 16) (λ i. octets' _))
 
-length-xor_lists : (u v : List ℕ) → length u ≤ length v → length (xor_lists u v) ≡ length u
+pub length-xor_lists : (u v : List ℕ) → length u ≤ length v → length (xor_lists u v) ≡ length u
 length-xor_lists [] v h = refl
 length-xor_lists (x ∷ u) [] h = absurd (omega arith)
 length-xor_lists (x ∷ u) (y ∷ v) h = ap suc (length-xor_lists u v (omega arith))

@@ -1,3 +1,4 @@
 pub mod Field
 pub mod Cipher
 pub mod KeySchedule
+pub mod Laws

@@ -5,7 +5,9 @@ mod cipher;
 mod cipher_block;
 mod kernel;
 mod key_schedule;
+mod laws;
 mod tables;
 
 pub use cipher_block::CipherBlock;
 pub use key_schedule::{KeyLength, KeySchedule};
+pub use laws::aes_is_undone;
