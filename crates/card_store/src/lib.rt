@@ -14,3 +14,6 @@ mod stores;
 pub use card_lines::CardLine;
 pub use store_errors::StoreErr;
 pub use stores::CardStore;
+
+#[cfg(test)]
+mod tests;
