@@ -1,5 +1,5 @@
 -- Keysets of cards.
-use Rattle.std.proofs.Common.{◌≡◌, ℕ, zero, suc, ◌<◌, ◌≤◌, List, [], ◌∷◌, length, get_or, arith}
+use Rattle.std.proofs.Common.{ℕ, zero, suc, ◌<◌, ◌≤◌, List, [], ◌∷◌, length, get_or, arith}
 use Rattle.ota_core.specs.KeysetList.{IsKeysetList}
 use Rattle.ota_core.specs.declared.keysets.KeysetFacts.{KeysetFacts}
 

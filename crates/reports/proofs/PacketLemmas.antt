@@ -1,4 +1,4 @@
-use Rattle.std.proofs.Common.{◌≡◌, ℕ, zero, suc, ◌+◌, ◌≤◌, Bool, true, false, ◌==◌, ◌&&◌, if◌then◌else◌, Option, Some, None, reverse, subst, List, [], ◌∷◌, ◌++◌, length, map, refl, sym, ap, ◌∙◌, arith, append_assoc}
+use Rattle.std.proofs.Common.{◌≡◌, ℕ, zero, suc, ◌+◌, ◌≤◌, Bool, true, false, if◌then◌else◌, Option, Some, None, reverse, subst, List, [], ◌∷◌, ◌++◌, length, map, refl, sym, ap, ◌∙◌, arith, append_assoc}
 use Rattle.std.specs.Prelude.{All, slice_index_or, find}
 use Rattle.std.specs.Option.{option_or, option_map}
 use Rattle.std.specs.List.{flat_map, range_with_len}
@@ -9,7 +9,7 @@ use Rattle.std.proofs.lemmas.List.FromFn.{map-range_with_len_more}
 use Rattle.std.proofs.lemmas.Grind.{flat_map-append}
 use Rattle.ota_core.specs.HistoryValue.{HistoryValue}
 use Rattle.ota_core.specs.Job.{is_same_job}
-use Rattle.ota_core.specs.Entry.{Reservation, is_settlement_of}
+use Rattle.ota_core.specs.Entry.{is_settlement_of}
 use Rattle.ota_core.specs.History.{first_some, last_reservation}
 use Rattle.ota_core.specs.Questions.{Reserved, place_of, reserved_for, last_reserved}
 use Rattle.ota_core.specs.Outcome.{settled_by}

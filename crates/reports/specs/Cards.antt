@@ -1,5 +1,5 @@
 -- The keysets of a plan: a line for the columns, and then a line for each keyset, card by card.
-use Rattle.std.specs.Prelude.{ℕ, ◌%◌, Bool, true, false, ◌==◌, Option, Some, None, unwrap_or, List, [], ◌++◌, length, map, reverse, find, codes}
+use Rattle.std.specs.Prelude.{ℕ, ◌%◌, Bool, true, false, ◌==◌, Option, Some, None, unwrap_or, List, ◌++◌, length, map, reverse, find, codes}
 use Rattle.std.specs.List.{flat_map, filter, filter_map, count_by}
 use Rattle.std.specs.Fmt.{decimal}
 use Rattle.ota_core.specs.Keyset.{Keyset, is_same_keyset}

@@ -1,5 +1,5 @@
 -- The counts of all keysets of a lane, kept entry by entry.
-use Rattle.std.specs.Prelude.{◌≡◌, ℕ, ◌+◌, ◌<◌, ◌^◌, if◌then◌else◌, Option, Some, None, unwrap_or, List}
+use Rattle.std.specs.Prelude.{◌≡◌, ◌+◌, ◌<◌, ◌^◌, if◌then◌else◌, Option, Some, None, unwrap_or, List}
 use Rattle.std.specs.BTreeMap.{BTreeMap, get}
 use Rattle.ota_core.specs.Keyset.{Keyset, is_same_keyset}
 use Rattle.ota_core.specs.declared.entries.Entry.{Entry}

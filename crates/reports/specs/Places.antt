@@ -1,5 +1,5 @@
 -- Where in a history each job is reserved last, and where each counter is settled. A place is counted from 0.
-use Rattle.std.specs.Prelude.{◌≡◌, ℕ, Option, Some, None, List, reverse, find, slice_get}
+use Rattle.std.specs.Prelude.{◌≡◌, ℕ, Option, List, reverse, find, slice_get}
 use Rattle.std.specs.Option.{option_and_then}
 use Rattle.std.specs.BTreeMap.{BTreeMap, get}
 use Rattle.std.specs.declared.cmp.Ordering.{Ordering}

@@ -1,5 +1,5 @@
 -- The report: a line for its columns, and then a line for each job, in order of the jobs.
-use Rattle.std.specs.Prelude.{ℕ, ◌%◌, nat_le, Bool, if◌then◌else◌, Option, Some, None, List, [], ◌∷◌, ◌++◌, length, reverse, codes, slice_index_or}
+use Rattle.std.specs.Prelude.{ℕ, ◌%◌, nat_le, if◌then◌else◌, List, [], ◌∷◌, ◌++◌, length, reverse, codes, slice_index_or}
 use Rattle.std.specs.List.{flat_map}
 use Rattle.std.specs.Fmt.{decimal}
 use Rattle.std.specs.Int.{bytes_high_first}

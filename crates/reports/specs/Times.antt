@@ -1,5 +1,5 @@
 -- When the jobs were reserved and settled: a line for the columns, and then a line for each job, in order of the jobs.
-use Rattle.std.specs.Prelude.{ℕ, nat_le, Bool, ◌==◌, ◌&&◌, ◌||◌, if◌then◌else◌, Option, Some, None, List, [], ◌∷◌, ◌++◌, map, reverse, find, codes}
+use Rattle.std.specs.Prelude.{ℕ, nat_le, Bool, ◌==◌, ◌&&◌, ◌||◌, if◌then◌else◌, Option, Some, None, List, [], ◌++◌, map, reverse, find, codes}
 use Rattle.std.specs.List.{flat_map}
 use Rattle.std.specs.Fmt.{decimal}
 use Rattle.ota_core.specs.Entry.{is_settlement_of, moment_of}
@@ -37,15 +37,15 @@ settled_text None = codes "-"
 settled_text (Some entry) = decimal (moment_of entry)
 
 -- name, moment of the reservation and moment of the settlement
-abbrev pub times_text : List Entry → Option Reserved → List ℕ
-times_text past None = no_times
-times_text past (Some reserved) =
+abbrev pub times_columns : List Entry → Option Reserved → List ℕ
+times_columns past None = no_times
+times_columns past (Some reserved) =
     name_text reserved.name ++ codes "," ++ decimal reserved.moment ++ codes "," ++ settled_text (find (is_settlement_of (place_of reserved)) past)
 
 -- the line of a job, by its last reservation in the history of its keyset's lane
 abbrev pub times_row : List Entry → JobId → List ℕ
 times_row history id =
-    decimal id.job ++ codes "," ++ times_text (reverse history) (last_reserved id (reverse history)) ++ codes "\n"
+    decimal id.job ++ codes "," ++ times_columns (reverse history) (last_reserved id (reverse history)) ++ codes "\n"
 
 -- the times of the jobs by the histories of the lanes
 abbrev pub times_of : List Job → List (List Entry) → List ℕ

@@ -1,5 +1,5 @@
-//! The texts that commands write: what has become of each job of a campaign, and the messages of those that wait for
-//! an answer.
+//! The texts that commands write: what has become of the jobs of a campaign and when, the keysets of its cards, and the
+//! messages of the jobs that wait for an answer. Each is a function of jobs or cards and of the histories of the lanes.
 #![tactic(auto)]
 
 mod cards;

@@ -21,7 +21,7 @@ pub fn summary_text(alloc: Global, jobs: &[Job], histories: &[History]) -> Resul
     Ok(text)
 }
 
-fn put_counts(text: &mut String, all: usize, counts: &Counts) -> Result<(), Memory>
+fn put_counts(text: &mut String, all: usize, counts: &JobCounts) -> Result<(), Memory>
     ensures { OnOk result (string_bytes text.new ≡ string_bytes text.old ++ summary_with all counts.now.done counts.now.refused counts.now.unsettled) }
 {
     let done = counts.done;
@@ -34,13 +34,13 @@ fn put_counts(text: &mut String, all: usize, counts: &Counts) -> Result<(), Memo
 
 /// How many jobs stand in each way.
 #[derive(Drop)]
-struct Counts {
+struct JobCounts {
     done: usize,
     refused: usize,
     unsettled: usize,
 }
 
-fn count_jobs(jobs: &[Job], lanes: &[LaneBook<'_>]) -> Counts
+fn count_jobs(jobs: &[Job], lanes: &[LaneBook<'_>]) -> JobCounts
     requires { 0 < length lanes.now }
     ensures done { result.done ≡ jobs_that is_done lanes.now jobs.now }
     ensures refused { result.refused ≡ jobs_that is_refused lanes.now jobs.now }
@@ -55,7 +55,7 @@ fn count_jobs(jobs: &[Job], lanes: &[LaneBook<'_>]) -> Counts
         refused += usize::from(is_refused(&looked));
         unsettled += usize::from(is_unsettled(&looked));
     }
-    Counts {
+    JobCounts {
         done,
         refused,
         unsettled,

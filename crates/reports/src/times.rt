@@ -3,7 +3,7 @@ ghost use Rattle.std.specs.Option.{option_copied};
 ghost use Rattle.std.specs.Fmt.{decimal};
 ghost use Rattle.ota_core.specs.Questions.{last_reserved};
 ghost use Rattle.reports.specs.Report.{entries_in};
-ghost use Rattle.reports.specs.Times.{is_word_octet, printed, name_text, settled_text, no_times, times_header, times_text, times_row, times_of};
+ghost use Rattle.reports.specs.Times.{is_word_octet, printed, name_text, settled_text, no_times, times_header, times_columns, times_row, times_of};
 
 use crate::lane_indexes::{LaneIndex, index_of, lane_indexes};
 use ota_core::{Entry, History, Job, JobId, Memory, Reserved};
@@ -46,7 +46,7 @@ fn put_row(text: &mut String, lane: &LaneIndex<'_>, job: JobId) -> Result<(), Me
 
 /// The columns behind the job's number.
 fn put_times(text: &mut String, lane: &LaneIndex<'_>, job: JobId) -> Result<(), Memory>
-    ensures { OnOk result (string_bytes text.new ≡ string_bytes text.old ++ times_text (reverse lane.now) (last_reserved job (reverse lane.now))) }
+    ensures { OnOk result (string_bytes text.new ≡ string_bytes text.old ++ times_columns (reverse lane.now) (last_reserved job (reverse lane.now))) }
 {
     match lane.last_reserved(job) {
         None => Ok(text.push_str(no_times())?),
