@@ -1,26 +1,25 @@
 -- What the tables of a book answer is what its history says.
-use Rattle.std.proofs.Common.{◌≡◌, ℕ, ◌+◌, Bool, true, false, ◌==◌, ◌&&◌, ◌||◌, if◌then◌else◌, List, [], ◌∷◌, ◌++◌, Option, None, Some, unwrap_or, is_some, reverse, find, refl, sym, ap, ◌∙◌, append_assoc}
+use Rattle.std.proofs.Common.{◌≡◌, ℕ, ◌+◌, Bool, true, false, if◌then◌else◌, List, [], ◌∷◌, ◌++◌, Option, None, Some, unwrap_or, is_some, reverse, find, refl, sym, ap, ◌∙◌}
 use Rattle.std.specs.Option.{option_or, option_map}
 use Rattle.std.specs.List.{list_any}
-use Rattle.std.proofs.lemmas.List.{reverse-append, reverse-reverse}
+use Rattle.std.proofs.lemmas.List.{reverse-append}
 use Rattle.ota_core.specs.Keyset.{Keyset, is_same_keyset}
 use Rattle.ota_core.specs.Entry.{Reservation, facts_in, counter_in, is_open_of, is_close_of, is_reserve_of, is_settlement_of}
-use Rattle.ota_core.specs.History.{first_some, broken, next_counter, last_reservation, IsLegalPast}
+use Rattle.ota_core.specs.History.{first_some, last_reservation, IsLegalPast}
 use Rattle.ota_core.specs.HistoryLaws.{is_same_keyset-true}
-use Rattle.ota_core.specs.Questions.{state_of, opened_facts, last_moment}
-use Rattle.ota_core.specs.Outcome.{outcome_of, outcome_of_reservation, settled_by}
+use Rattle.ota_core.specs.Questions.{state_of}
+use Rattle.ota_core.specs.Outcome.{outcome_of_reservation, settled_by}
 use Rattle.ota_core.specs.declared.jobs.JobId.{JobId}
 use Rattle.ota_core.specs.declared.keysets.KeysetFacts.{KeysetFacts}
 use Rattle.ota_core.specs.declared.questions.KeysetState.{KeysetState}
 use Rattle.ota_core.specs.declared.entries.Entry.{Entry}
 use Rattle.ota_core.specs.declared.entries.Entry.TheVariants.{Open, Reserve, Done, Refused, Close}
-use Rattle.keyset_book.specs.Tables.{known_in, reserved_in, standing_in}
-use Rattle.keyset_book.specs.Book.{known_by, known_from, standing_by, standing_of, IsBookOf, StandsFor}
+use Rattle.keyset_book.specs.Book.{known_by, known_from, standing_by, standing_of, IsBookOf}
 use Rattle.keyset_book.specs.Answers.{next_where, next_by, looked_of, settled_in}
 use Rattle.keyset_book.specs.Asked.{next_after, state_with, looked_at, looked_after, settled_with}
 use Rattle.keyset_book.specs.declared.books.Book.{Book}
-use Rattle.keyset_book.proofs.PastLemmas.{by_cases, other_keyset, opens_first, opened-facts, unopened_unused, unreserved_unsettled, unfound, last_reserved}
-use Rattle.keyset_book.proofs.RuleLemmas.{standing-reserved, first_rule-is}
+use Rattle.keyset_book.proofs.PastLemmas.{by_cases, opens_first, opened-facts, unopened_unused, unreserved_unsettled, unfound, last_reserved}
+use Rattle.keyset_book.proofs.RuleLemmas.{standing-reserved}
 
 module _ (keyset : Keyset) (past : List Entry) where
   pub next-is : next_after (known_by keyset past) ≡ next_by keyset past

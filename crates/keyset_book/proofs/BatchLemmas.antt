@@ -1,16 +1,15 @@
 -- A batch entered entry by entry.
-use Rattle.std.proofs.Common.{◌≡◌, ℕ, ◌+◌, ◌<◌, ◌≤◌, suc, Bool, true, false, ◌&&◌, List, [], ◌∷◌, ◌++◌, Option, None, Some, length, get_or, take, drop, reverse, refl, sym, ap, ◌∙◌, append_assoc, add-one, take-suc, drop-cons, arith}
-use Rattle.std.specs.Option.{option_or}
+use Rattle.std.proofs.Common.{◌≡◌, ℕ, ◌+◌, ◌<◌, ◌≤◌, suc, true, List, [], ◌∷◌, ◌++◌, None, length, get_or, take, drop, reverse, refl, sym, ap, ◌∙◌, append_assoc, add-one, take-suc, drop-cons}
 use Rattle.std.specs.List.{list_all}
 use Rattle.std.proofs.lemmas.List.{reverse-append, take_all, append-nil}
 use Rattle.std.proofs.lemmas.List.Folds.{list_all_at, list_all_more}
-use Rattle.ota_core.specs.Entry.{Reservation, moment_of}
+use Rattle.ota_core.specs.Entry.{moment_of}
 use Rattle.ota_core.specs.History.{broken, broken_batch, IsLegalPast, IsLegal}
 use Rattle.ota_core.specs.HistoryLaws.{both_hold}
 use Rattle.ota_core.specs.declared.entries.Entry.{Entry}
 use Rattle.ota_core.specs.declared.entries.Entry.TheVariants.{Open, Reserve, Done, Refused, Close}
 use Rattle.keyset_book.specs.Tables.{has_job_place, has_counter_place}
-use Rattle.keyset_book.specs.Book.{IsBookOf, StandsFor, has_room_for, HasRoom, needs_no_room}
+use Rattle.keyset_book.specs.Book.{StandsFor, has_room_for, HasRoom, needs_no_room}
 use Rattle.keyset_book.specs.Entering.{Enters, KeepsPlaces, SaysSame}
 use Rattle.keyset_book.specs.declared.books.Book.{Book}
 use Rattle.keyset_book.proofs.PastLemmas.{by_cases, apart}

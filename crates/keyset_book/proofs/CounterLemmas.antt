@@ -1,13 +1,13 @@
 -- A counter that is filled in its row.
-use Rattle.std.proofs.Common.{◌≡◌, ◌≢◌, ℕ, ◌/◌, ◌%◌, ◌<◌, Bool, true, false, not, ◌==◌, ◌&&◌, if◌then◌else◌, List, length, Option, None, Some, get_or, refl, sym, ap, subst, ◌∙◌, arith}
+use Rattle.std.proofs.Common.{◌≡◌, ◌≢◌, ℕ, ◌/◌, ◌%◌, ◌<◌, Bool, true, false, ◌==◌, ◌&&◌, if◌then◌else◌, List, length, Option, None, Some, get_or, refl, sym, ap, ◌∙◌, arith}
 use Rattle.std.proofs.Math.ListN.{set}
-use Rattle.std.proofs.lemmas.Bool.{eqb-true, eq-eqb, eqb-false}
+use Rattle.std.proofs.lemmas.Bool.{eqb-true, eqb-false}
 use Rattle.std.proofs.lemmas.List.{get_or-set_same, get_or-set_other}
 use Rattle.std.specs.BTreeMap.{get}
-use Rattle.ota_core.specs.Keyset.{Keyset, is_same_keyset}
+use Rattle.ota_core.specs.Keyset.{is_same_keyset}
 use Rattle.ota_core.specs.Entry.{Reservation}
 use Rattle.ota_core.specs.HistoryLaws.{is_same_keyset-true}
-use Rattle.keyset_book.specs.Tables.{is_same_counter, row_cmp, row_of, column_of, in_row, standing_in, FillsRow, FillsCounter}
+use Rattle.keyset_book.specs.Tables.{is_same_counter, row_cmp, row_of, column_of, in_row, standing_in, FillsRow}
 use Rattle.keyset_book.specs.declared.counter_table.Standing.{Standing}
 use Rattle.keyset_book.specs.declared.counter_table.CounterTable.{CounterTable}
 

@@ -1,27 +1,23 @@
 -- A book in which a legal entry is entered says what the past with the entry says.
-use Rattle.std.proofs.Common.{◌≡◌, ℕ, ◌+◌, ◌≤◌, nat_le, Bool, true, false, not, ◌==◌, ◌&&◌, ◌||◌, if◌then◌else◌, List, [], ◌∷◌, ◌++◌, Option, None, Some, unwrap_or, is_some, reverse, find, refl, sym, ap, ◌∙◌, arith}
-use Rattle.std.specs.Option.{option_or, option_map, option_flatten}
+use Rattle.std.proofs.Common.{◌≡◌, ℕ, Bool, true, false, not, ◌&&◌, ◌||◌, if◌then◌else◌, List, ◌∷◌, Option, None, Some, unwrap_or, is_some, find, refl, sym, ap, ◌∙◌}
+use Rattle.std.specs.Option.{option_or, option_flatten}
 use Rattle.std.specs.BTreeMap.{get}
 use Rattle.std.specs.List.{list_any}
-use Rattle.std.proofs.lemmas.Grind.{common_steps}
-use Rattle.std.proofs.lemmas.Bool.Decides.{nat_tests}
 use Rattle.ota_core.specs.Keyset.{Keyset, is_same_keyset}
 use Rattle.ota_core.specs.Job.{is_same_job}
-use Rattle.ota_core.specs.Entry.{Reservation, moment_of, facts_in, counter_in, is_open_of, is_close_of, is_reserve_of, is_refusal_of, is_settlement_of}
-use Rattle.ota_core.specs.History.{first_some, unless, broken, broken_in_use, broken_counter, broken_job, broken_settlement, broken_status, next_counter, last_reservation, IsLegalPast}
-use Rattle.ota_core.specs.HistoryLaws.{both_hold, not-holds, unless-holds, in_order, is_in_use, in_use-opened, reserves_next, is_same_keyset-true}
+use Rattle.ota_core.specs.Entry.{Reservation, moment_of, facts_in, counter_in, is_open_of, is_close_of, is_reserve_of, is_settlement_of}
+use Rattle.ota_core.specs.History.{first_some, unless, broken, IsLegalPast}
+use Rattle.ota_core.specs.HistoryLaws.{both_hold, unless-holds, is_in_use, in_use-opened, reserves_next, is_same_keyset-true}
 use Rattle.ota_core.specs.declared.jobs.JobId.{JobId}
 use Rattle.ota_core.specs.declared.keysets.KeysetFacts.{KeysetFacts}
 use Rattle.ota_core.specs.declared.entries.Entry.{Entry}
 use Rattle.ota_core.specs.declared.entries.Entry.TheVariants.{Open, Reserve, Done, Refused, Close}
 use Rattle.ota_core.specs.declared.entries.Illegal.{Illegal}
-use Rattle.keyset_book.specs.Tables.{known_in, has_keyset_place, FillsKeyset, reserved_in, has_job_place, FillsJob, is_same_counter, standing_in, has_counter_place, FillsCounter, in_row, row_cmp, row_of, column_of, keyset_cmp}
-use Rattle.keyset_book.specs.Book.{known_by, known_from, standing_by, standing_of, IsBookOf, has_room_for}
+use Rattle.keyset_book.specs.Tables.{known_in, has_keyset_place, has_job_place, is_same_counter, has_counter_place, in_row, row_cmp, row_of, column_of}
+use Rattle.keyset_book.specs.Book.{known_from, standing_of, IsBookOf, has_room_for}
 use Rattle.keyset_book.specs.Entering.{Opens, Reserves, Settles, Closes, Enters}
-use Rattle.keyset_book.specs.declared.keyset_table.Known.{Known}
 use Rattle.keyset_book.specs.declared.counter_table.Standing.{Standing}
 use Rattle.keyset_book.specs.declared.counter_table.Standing.TheVariants as standing
-use Rattle.keyset_book.specs.declared.counter_table.CounterTable.{CounterTable}
 use Rattle.keyset_book.specs.declared.books.Book.{Book}
 use Rattle.keyset_book.proofs.PastLemmas.{by_cases, opens_first, opened-facts, unopened_unclosed, next_unreserved, unreserved_unsettled, unfound, same_place, settles_reserved, done_settles, refused_settles}
 

@@ -1,16 +1,14 @@
 -- What a legal past says of a keyset or a counter that it doesn't open or reserve.
-use Rattle.std.proofs.Common.{◌≡◌, ℕ, ◌+◌, ◌≤◌, Bool, true, false, not, ◌==◌, ◌&&◌, ◌||◌, if◌then◌else◌, List, [], ◌∷◌, ◌++◌, Option, None, Some, unwrap_or, is_some, reverse, find, refl, sym, ap, ◌∙◌, arith}
+use Rattle.std.proofs.Common.{◌≡◌, ℕ, ◌≤◌, Bool, true, false, not, ◌==◌, ◌&&◌, ◌||◌, List, [], ◌∷◌, None, Some, unwrap_or, is_some, find, refl, arith}
 use Rattle.std.specs.Option.{option_or}
 use Rattle.std.specs.List.{list_any}
-use Rattle.std.proofs.lemmas.Grind.{common_steps}
 use Rattle.std.proofs.lemmas.Bool.Decides.{nat_tests}
 use Rattle.std.proofs.lemmas.Bool.{or_parts}
-use Rattle.std.proofs.lemmas.List.{reverse-append}
 use Rattle.ota_core.specs.Keyset.{Keyset, is_same_keyset}
 use Rattle.ota_core.specs.Job.{is_same_job}
-use Rattle.ota_core.specs.Entry.{Reservation, facts_in, counter_in, reservation_in, is_open_of, is_close_of, is_reserve_of, is_refusal_of, is_settlement_of}
+use Rattle.ota_core.specs.Entry.{Reservation, facts_in, counter_in, is_open_of, is_close_of, is_reserve_of, is_refusal_of, is_settlement_of}
 use Rattle.ota_core.specs.History.{first_some, unless, broken_in_use, broken_settlement, broken_status, next_counter, last_reservation, IsLegalPast}
-use Rattle.ota_core.specs.HistoryLaws.{in_use-opened, in_use-not_closed, is_in_use, in_order, reserves_next, both_hold, unless-holds, not-holds, is_same_keyset-true, is_same_keyset-refl, is_same_place-true}
+use Rattle.ota_core.specs.HistoryLaws.{in_use-opened, is_in_use, in_order, reserves_next, both_hold, unless-holds, not-holds, is_same_keyset-true, is_same_keyset-refl, is_same_place-true}
 use Rattle.ota_core.specs.declared.jobs.JobId.{JobId}
 use Rattle.ota_core.specs.declared.keysets.KeysetFacts.{KeysetFacts}
 use Rattle.ota_core.specs.declared.entries.Entry.{Entry}

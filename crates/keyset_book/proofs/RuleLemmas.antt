@@ -1,24 +1,21 @@
 -- The rules asked of a book's tables are those of its past.
-use Rattle.std.proofs.Common.{◌≡◌, ℕ, ◌+◌, ◌≤◌, nat_le, Bool, true, false, not, ◌==◌, ◌&&◌, ◌||◌, if◌then◌else◌, List, [], ◌∷◌, ◌++◌, Option, None, Some, unwrap_or, is_some, is_none, reverse, find, refl, sym, ap, ◌∙◌, arith}
-use Rattle.std.specs.Option.{option_or, option_map}
+use Rattle.std.proofs.Common.{◌≡◌, ℕ, nat_le, true, false, not, ◌==◌, ◌&&◌, List, [], ◌∷◌, Option, None, Some, is_some, is_none, find, refl, ap, ◌∙◌, arith}
+use Rattle.std.specs.Option.{option_or}
 use Rattle.std.specs.List.{list_any}
-use Rattle.std.proofs.lemmas.Grind.{common_steps}
 use Rattle.std.proofs.lemmas.Bool.Decides.{nat_tests}
 use Rattle.ota_core.specs.Keyset.{Keyset, is_same_keyset}
 use Rattle.ota_core.specs.Entry.{Reservation, moment_of, facts_in, counter_in, is_open_of, is_close_of, is_reserve_of, is_refusal_of, is_settlement_of}
-use Rattle.ota_core.specs.History.{first_some, unless, broken, broken_in_order, broken_in_use, broken_counter, broken_job, broken_settlement, broken_status, broken_moment, next_counter, last_reservation, IsLegalPast}
+use Rattle.ota_core.specs.History.{first_some, unless, broken, broken_in_order, broken_in_use, broken_job, broken_settlement, broken_moment, next_counter, last_reservation, IsLegalPast}
 use Rattle.ota_core.specs.HistoryLaws.{both_hold, not-holds}
 use Rattle.ota_core.specs.declared.jobs.JobId.{JobId}
 use Rattle.ota_core.specs.declared.keysets.KeysetFacts.{KeysetFacts}
 use Rattle.ota_core.specs.declared.entries.Entry.{Entry}
 use Rattle.ota_core.specs.declared.entries.Entry.TheVariants.{Open, Reserve, Done, Refused, Close}
 use Rattle.ota_core.specs.declared.entries.Illegal.{Illegal}
-use Rattle.keyset_book.specs.Tables.{known_in, reserved_in, standing_in}
 use Rattle.keyset_book.specs.Book.{known_by, known_from, standing_by, standing_of, IsBookOf}
 use Rattle.keyset_book.specs.Rules.{rule_in_use, next_to, is_refused, rule_job, rule_settlement, rule_in_order, rule_moment, first_rule}
-use Rattle.keyset_book.specs.declared.counter_table.Standing.{Standing}
 use Rattle.keyset_book.specs.declared.books.Book.{Book}
-use Rattle.keyset_book.proofs.PastLemmas.{by_cases, opened-facts, unopened_unused, same_place, done_settles, refused_settles, unsettled_unrefused, last_reserved}
+use Rattle.keyset_book.proofs.PastLemmas.{by_cases, opened-facts, unopened_unused, same_place, done_settles, unsettled_unrefused, last_reserved}
 
 -- the keyset is in use, by what is known of it
 pub in_use-is : (keyset : Keyset) (past : List Entry) → rule_in_use (known_by keyset past) ≡ broken_in_use keyset past

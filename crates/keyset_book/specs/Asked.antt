@@ -1,12 +1,10 @@
 -- What the tables of a book answer.
-use Rattle.std.specs.Prelude.{ℕ, ◌+◌, nat_le, Bool, true, false, if◌then◌else◌, Option, Some, None, Result, Ok, Err}
-use Rattle.std.specs.Option.{option_map}
+use Rattle.std.specs.Prelude.{ℕ, ◌+◌, nat_le, if◌then◌else◌, Option, Some, None, Result, Ok, Err}
 use Rattle.ota_core.specs.Entry.{Reservation}
 use Rattle.ota_core.specs.History.{LAST_COUNTER}
-use Rattle.ota_core.specs.declared.jobs.JobId.{JobId}
 use Rattle.ota_core.specs.declared.questions.KeysetState.{KeysetState}
 use Rattle.ota_core.specs.declared.questions.KeysetState.TheVariants as state
-use Rattle.keyset_book.specs.Tables.{reserved_in, standing_in}
+use Rattle.keyset_book.specs.Tables.{standing_in}
 use Rattle.keyset_book.specs.declared.answers.BookErr.{BookErr}
 use Rattle.keyset_book.specs.declared.answers.BookErr.TheVariants.{UnknownKeyset, Closed, Exhausted}
 use Rattle.keyset_book.specs.declared.answers.Looked.{Looked}

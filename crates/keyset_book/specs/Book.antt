@@ -1,5 +1,5 @@
 -- The history that a book stands for, and what it has room for.
-use Rattle.std.specs.Prelude.{◌≡◌, ℕ, Bool, true, false, ◌&&◌, if◌then◌else◌, unwrap_or, Option, Some, None, List, [], ◌∷◌, reverse, find}
+use Rattle.std.specs.Prelude.{◌≡◌, ℕ, Bool, true, false, ◌&&◌, if◌then◌else◌, unwrap_or, Option, Some, None, List, reverse, find}
 use Rattle.std.specs.List.{list_any, list_all}
 use Rattle.ota_core.specs.Keyset.{Keyset}
 use Rattle.ota_core.specs.Entry.{Reservation, facts_in, counter_in, is_close_of, is_reserve_of, is_settlement_of}

@@ -1,5 +1,5 @@
 -- What an entry changes in the tables of a book.
-use Rattle.std.specs.Prelude.{◌≡◌, ℕ, true, false, Some}
+use Rattle.std.specs.Prelude.{◌≡◌, true, false, Some}
 use Rattle.ota_core.specs.Keyset.{Keyset}
 use Rattle.ota_core.specs.Entry.{Reservation}
 use Rattle.ota_core.specs.declared.jobs.JobId.{JobId}

@@ -1,10 +1,8 @@
 -- The rules of a history, asked of the tables of a book.
 use Rattle.std.specs.Prelude.{ℕ, ◌+◌, Bool, true, false, nat_le, not, Option, Some, None, is_none}
 use Rattle.std.specs.Option.{option_or}
-use Rattle.ota_core.specs.Keyset.{Keyset}
 use Rattle.ota_core.specs.Entry.{Reservation, moment_of}
 use Rattle.ota_core.specs.History.{unless, broken_counter, broken_status}
-use Rattle.ota_core.specs.declared.jobs.JobId.{JobId}
 use Rattle.ota_core.specs.declared.entries.Entry.{Entry}
 use Rattle.ota_core.specs.declared.entries.Entry.TheVariants as entry
 use Rattle.ota_core.specs.declared.entries.Illegal.{Illegal}
@@ -12,7 +10,7 @@ use Rattle.ota_core.specs.declared.entries.Illegal.TheVariants.{NotOpened, Opene
 use Rattle.keyset_book.specs.Tables.{known_in, reserved_in, standing_in}
 use Rattle.keyset_book.specs.declared.keyset_table.Known.{Known}
 use Rattle.keyset_book.specs.declared.counter_table.Standing.{Standing}
-use Rattle.keyset_book.specs.declared.counter_table.Standing.TheVariants.{Unsettled, Done, Refused}
+use Rattle.keyset_book.specs.declared.counter_table.Standing.TheVariants.{Unsettled, Refused}
 use Rattle.keyset_book.specs.declared.books.Book.{Book}
 
 -- the keyset is in use

@@ -1,5 +1,4 @@
 use Rattle.std.proofs.Common.{[]}
-use Rattle.keyset_book.specs.Book.{StandsFor}
 use Rattle.keyset_book.proofs.BatchLemmas.{legal-whole}
 use Rattle.keyset_book.proofs.books.Book.from_history.Goals as goal
 
