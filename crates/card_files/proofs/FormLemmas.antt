@@ -43,16 +43,16 @@ length-overwritten octets new offset h =
     length-append (take offset octets) (new ++ drop (offset + length new) octets)
     ∙ ap (λ n. length (take offset octets) + n) (length-append new (drop (offset + length new) octets))
     ∙ (let a = length-take offset octets in
-       let b = length-drop (offset + length new) octets in
-       omega (arith, a, b, h))
+    let b = length-drop (offset + length new) octets in
+    omega (arith, a, b, h))
 
 binary-in : (remote active : Bool) (contents : Contents) (after : File) (offset : ℕ) (new : List ℕ)
     → binary_written (record { remote = remote; active = active; contents = contents }) offset new ≡ Ok after → IsKept (record { remote = remote; active = active; contents = contents }) after
 binary-in true true (Transparent octets) after offset new e =
     kept-if (nat_le (offset + length new) (length octets)) WrongOffset (record { remote = true; active = true; contents = Transparent octets }) (record { remote = true; active = true; contents = Transparent (overwritten octets offset new) }) after
     (λ fits.
-      let long = length-overwritten octets new offset (leb-true (offset + length new) (length octets) fits) in
-      record { kind = refl; size = long; form = λ some. subst (λ n. 0 < n) (sym long) some }) e
+    let long = length-overwritten octets new offset (leb-true (offset + length new) (length octets) fits) in
+    record { kind = refl; size = long; form = λ some. subst (λ n. 0 < n) (sym long) some }) e
 binary-in true false (Transparent octets) after offset new e = cc
 binary-in false active (Transparent octets) after offset new e = cc
 binary-in remote active Folder after offset new e = cc
@@ -70,7 +70,7 @@ set-rows records at new long h =
       short = h.short;
       some = subst (λ n. 0 < n) (sym count) h.some;
       few = subst (λ n. n ≤ 254) (sym count) h.few;
-      alike = All-set (λ (row : List ℕ). length row ≡ records.width) records.rows at new long h.alike
+      alike = All-set (λ (row : List ℕ). length row ≡ records.width) records.rows at new long h.alike;
     }
 
 linear-in : (remote active : Bool) (contents : Contents) (after : File) (number : ℕ) (new : List ℕ)
@@ -80,7 +80,7 @@ linear-in true true (Linear records) after number new e =
     (λ long. record {
       kind = refl;
       size = ap (λ n. records.width * n) (length-set records.rows (number - 1) new);
-      form = set-rows records (number - 1) new (grind (arith, nat_tests))
+      form = set-rows records (number - 1) new (grind (arith, nat_tests));
     }) e
 linear-in true false (Linear records) after number new e = cc
 linear-in false active (Linear records) after number new e = cc
@@ -102,7 +102,7 @@ pushed-rows records new long h =
       short = h.short;
       some = subst (λ n. 0 < n) (sym count) h.some;
       few = subst (λ n. n ≤ 254) (sym count) h.few;
-      alike = All-take (λ (row : List ℕ). length row ≡ records.width) (length records.rows) (new ∷ records.rows) (All-cons (λ (row : List ℕ). length row ≡ records.width) new records.rows long h.alike)
+      alike = All-take (λ (row : List ℕ). length row ≡ records.width) (length records.rows) (new ∷ records.rows) (All-cons (λ (row : List ℕ). length row ≡ records.width) new records.rows long h.alike);
     }
 
 cyclic-in : (remote active : Bool) (contents : Contents) (after : File) (new : List ℕ)
@@ -112,7 +112,7 @@ cyclic-in true true (Cyclic records) after new e =
     (λ long. record {
       kind = refl;
       size = ap (λ n. records.width * n) (as-many records new);
-      form = pushed-rows records new (grind (arith, nat_tests))
+      form = pushed-rows records new (grind (arith, nat_tests));
     }) e
 cyclic-in true false (Cyclic records) after new e = cc
 cyclic-in false active (Cyclic records) after new e = cc
@@ -155,7 +155,7 @@ given-kept remote active records by (Some row) after out is e =
     let kept : IsKept before made = record {
       kind = refl;
       size = ap (λ n. records.width * n) (as-many records row);
-      form = λ h. pushed-rows records row (summed (get_or records.rows 0 []) by row (sym is) ∙ h.alike 0 [] h.some) h
+      form = λ h. pushed-rows records row (summed (get_or records.rows 0 []) by row (sym is) ∙ h.alike 0 [] h.some) h;
     } in
     subst (IsKept before) (same-pair made after row out e) kept
 given-kept remote active records by None after out is e = cc

@@ -25,7 +25,7 @@ rows-sized width count octet some short any few =
       short = short;
       some = subst (λ n. 0 < n) (sym long) any;
       few = subst (λ n. n ≤ 254) (sym long) few;
-      alike = All-replicate (λ (row : List ℕ). length row ≡ width) count (replicate width octet) (length-replicate width octet)
+      alike = All-replicate (λ (row : List ℕ). length row ≡ width) count (replicate width octet) (length-replicate width octet);
     }
 
 pub form-of : (kind : Kind) → IsSized kind → HasForm (contents_of kind)
@@ -103,8 +103,8 @@ is-new s id path kind size h fits free child sized deep is room =
         folder = subst (λ p. is_folder_at s.files p ≡ true) (sym under) h.selected.folder;
         deep = subst (λ n. n ≤ (if is_folder (new_file (contents_of kind)) then 3 else 4)) (sym long) (deep-of kind (length s.folder) deep);
         id = λ some. subst (λ p. IsIdIn p (id_of path)) (sym under) (subst (IsIdIn s.folder) (sym last) (id-free s id fits free));
-        form = form-of kind sized
+        form = form-of kind sized;
       };
       few = grind (arith, nat_tests);
-      room = grind (arith, nat_tests)
+      room = grind (arith, nat_tests);
     }

@@ -61,9 +61,9 @@ tree-put files path new h alike place =
       places = λ q file found.
           put-file (eq_by_cmp by_path q path) new file (map.get files q) (IsInPlace after q)
           (λ e. let P : List ℕ → Type 0 = λ p. IsInPlace after p new in
-            subst P (sym (same-path q path e)) (in-place files after path new (grows (above path)) place))
+          subst P (sym (same-path q path e)) (in-place files after path new (grows (above path)) place))
           (λ e there. in-place files after q file (grows (above q)) (h.places q file there))
-          (sym (map.get-insert nat_list_cmp_total files path new q) ∙ found)
+          (sym (map.get-insert nat_list_cmp_total files path new q) ∙ found);
     }
 
 is_ef : File → Bool
@@ -76,7 +76,7 @@ pub selected-put : (files : Tree) (path : List ℕ) (new : File) (folder : List 
 selected-put files path new folder None alike h = record { folder = kept-put is_folder files path new alike folder h.folder; ef = tt }
 selected-put files path new folder (Some ef) alike h = record {
   folder = kept-put is_folder files path new alike folder h.folder;
-  ef = (kept-put (λ (f : File). not (is_folder f)) files path new (alike-ef files path new alike) ef h.ef.0, h.ef.1)
+  ef = (kept-put (λ (f : File). not (is_folder f)) files path new (alike-ef files path new alike) ef h.ef.0, h.ef.1);
 }
 
 -- below a path
@@ -137,7 +137,7 @@ tree-without files path folder out h =
       mf = kept-without is_folder files path [] (stays-mf path folder out) h.mf;
       places = λ q file found.
           let there = found-kept (stays path q) (map.get files q) file (sym (get-kept path files q) ∙ found) in
-          in-place files after q file (kept-without is_folder files path (above q) (stays-above path q there.0)) (h.places q file there.1)
+          in-place files after q file (kept-without is_folder files path (above q) (stays-above path q there.0)) (h.places q file there.1);
     }
 
 ef-stays : (b : Bool) (files after : Tree) (folder path : List ℕ) → (b ≡ false → is_ef_at after path ≡ true) → above path ≡ folder → IfSome (cond b None (Some path)) (λ ef. (is_ef_at after ef ≡ true) × (above ef ≡ folder))
@@ -150,7 +150,7 @@ selected-without files path folder (Some ef) out h = record {
   folder = kept-without is_folder files path folder (ap not out) h.folder;
   ef = ef-stays (is_within path ef) files (map.retain_keys files (stays path)) folder ef
       (λ e. kept-without (λ (f : File). not (is_folder f)) files path ef (ap not e) h.ef.0)
-      h.ef.1
+      h.ef.1;
 }
 
 -- the selection is forgotten first
@@ -158,5 +158,5 @@ pub selected-forgotten : (files : Tree) (path folder : List ℕ) (ef : Option (L
 selected-forgotten files path folder None h = record { folder = h.folder; ef = tt }
 selected-forgotten files path folder (Some ef) h = record {
   folder = h.folder;
-  ef = ef-stays (is_within path ef) files files folder ef (λ e. h.ef.0) h.ef.1
+  ef = ef-stays (is_within path ef) files files folder ef (λ e. h.ef.0) h.ef.1;
 }

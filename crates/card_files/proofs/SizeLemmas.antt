@@ -114,11 +114,13 @@ room-same files path old new found size h =
 pub grows : (files : Tree) (path : List ℕ) (file : File) → (map.len (map.insert files path file) ≤ map.len files + 1) × (room_of (map.insert files path file) ≤ room_of files + size_of file)
 grows files path file =
     let sums = room-put files path file in
-    let count = map.len-insert nat_list_cmp_total files path file in
-    (elim (is_some (map.get files path)) as (λ b. map.len (map.insert files path file) ≡ cond b (map.len files) (map.len files + 1) → map.len (map.insert files path file) ≤ map.len files + 1) [
-      | true ↦ λ e. omega (arith, e)
-      | false ↦ λ e. omega (arith, e)
-    ] count, omega (arith, sums))
+    let count = map.len-insert nat_list_cmp_total files path file in (
+      elim (is_some (map.get files path)) as (λ b. map.len (map.insert files path file) ≡ cond b (map.len files) (map.len files + 1) → map.len (map.insert files path file) ≤ map.len files + 1) [
+        | true ↦ λ e. omega (arith, e)
+        | false ↦ λ e. omega (arith, e)
+      ] count,
+      omega (arith, sums),
+    )
 
 -- a file was put among the others, for which there was room
 pub room-more : (files : Tree) (path : List ℕ) (file : File) → map.len files < 256 → room_of files + size_of file ≤ 32768 → HasRoom (map.insert files path file)

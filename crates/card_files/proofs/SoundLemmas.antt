@@ -33,12 +33,12 @@ sound-put files folder ef path before new found kept h =
       folder = was.folder;
       deep = subst (λ b. length path ≤ (if b then 3 else 4)) (sym kept.kind) was.deep;
       id = was.id;
-      form = kept.form was.form
+      form = kept.form was.form;
     } in
     record {
       tree = tree-put files path new h.tree alike place;
       selected = selected-put files path new folder ef alike h.selected;
-      room = room-same files path before new found kept.size h.room
+      room = room-same files path before new found kept.size h.room;
     }
 
 -- what a command does to a file that it finds
@@ -107,7 +107,7 @@ module _ (files : Tree) (folder : List ℕ) (ef : Option (List ℕ)) (path : Lis
   sound-new new none place few room = record {
     tree = tree-put files path new h.tree (none-there new none) place;
     selected = selected-put files path new folder ef (none-there new none) h.selected;
-    room = room-more files path new few room
+    room = room-more files path new few room;
   }
 
   -- the files below a path went, of which none is the current folder or current EF
@@ -115,7 +115,7 @@ module _ (files : Tree) (folder : List ℕ) (ef : Option (List ℕ)) (path : Lis
   sound-without out = record {
     tree = tree-without files path folder out h.tree;
     selected = selected-without files path folder ef out h.selected;
-    room = room-without files path h.room
+    room = room-without files path h.room;
   }
 
   pub sound-forgotten : IsSound (state files folder (ef_without path ef))
@@ -137,7 +137,7 @@ module _ (files : Tree) (folder : List ℕ) (ef : Option (List ℕ)) (path : Lis
   sound-ef there is = record {
     tree = h.tree;
     selected = record { folder = folder-above (map.get files path) refl there; ef = (is_ef-there (map.get files path) there is, refl) };
-    room = h.room
+    room = h.room;
   }
 
 pub sound-mf : (files : Tree) (folder : List ℕ) (ef : Option (List ℕ)) → IsSound (state files folder ef) → IsSound (state files [] None)

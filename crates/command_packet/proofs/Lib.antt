@@ -1,3 +1,4 @@
+pub mod BuiltLaws
 pub mod CommandLemmas
 pub mod CarriedLemmas
 pub mod NamedLemmas

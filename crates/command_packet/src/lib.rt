@@ -11,7 +11,7 @@ mod opening;
 
 pub use building::{build, build_in};
 pub use heads::kvn_of;
-pub use laws::packets_name_their_keyset;
+pub use laws::{packets_carry_their_command, packets_name_their_keyset};
 pub use opening::{Command, OpenErr, open};
 pub use secured_packet::PacketBuf;
 

@@ -1,3 +1,4 @@
 pub mod SecuredLemmas
+pub mod SentLemmas
 pub mod FieldLemmas
 pub mod CheckLemmas

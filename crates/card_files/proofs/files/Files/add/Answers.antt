@@ -13,7 +13,7 @@ invariant_of-self-2 c =
     let path = c.args.new.path in
     let contents = contents_of c.args.new.kind in
     let made : c.insert.new.self ≡ map.insert inside.tree path (new_file contents) =
-      c.in_ok-insert.ensures.ok ∙ ap (λ (p : List ℕ). map.insert inside.tree p (new_file c.in_ok-contents.contents)) c.copied.ensures ∙ ap (λ (k : Contents). map.insert inside.tree path (new_file k)) c.in_ok-contents.ensures in
+    c.in_ok-insert.ensures.ok ∙ ap (λ (p : List ℕ). map.insert inside.tree p (new_file c.in_ok-contents.contents)) c.copied.ensures ∙ ap (λ (k : Contents). map.insert inside.tree path (new_file k)) c.in_ok-contents.ensures in
     let N : Tree → Type 0 = λ t. IsNew t path contents in
     let new = subst N (sym (ap (λ (s : State). s.files) c.self.view_is)) c.requires.new in
     let P : Tree → Type 0 = λ t. IsSound (state t inside.folder inside.ef) in
@@ -24,5 +24,5 @@ make_current-requires c =
     let inside = c.self.inside in
     let path = c.args.new.path in
     let made : c.insert.new.self ≡ map.insert inside.tree path (new_file c.in_ok-contents.contents) =
-      c.in_ok-insert.ensures.ok ∙ ap (λ (p : List ℕ). map.insert inside.tree p (new_file c.in_ok-contents.contents)) c.copied.ensures in
+    c.in_ok-insert.ensures.ok ∙ ap (λ (p : List ℕ). map.insert inside.tree p (new_file c.in_ok-contents.contents)) c.copied.ensures in
     ap (λ (t : Tree). is_some (map.get t path)) made ∙ there-put inside.tree path (new_file c.in_ok-contents.contents)

@@ -19,6 +19,6 @@ returns-clause-new c =
     let below : c.depth.result < deepest kind = c.in-Some-kind_of.ensures.deep in
     let deep : length inside.folder < deepest kind = omega (arith, depth, below) in
     let new : IsNew inside.tree c.in-Some.path (contents_of kind) = is-new s c.word.result c.in-Some.path kind c.word-size.result c.self.invariant c.word.type_inv free
-      (c.in-Some.ensures ∙ ap (child_of inside.folder) same) c.in-Some-kind_of.ensures.sized deep c.in-Some-kind_of.ensures.size (sym c.has_room.ensures ∙ c.if-not-has_room.false) in
+    (c.in-Some.ensures ∙ ap (child_of inside.folder) same) c.in-Some-kind_of.ensures.sized deep c.in-Some-kind_of.ensures.size (sym c.has_room.ensures ∙ c.if-not-has_room.false) in
     let N : State → Type 0 = λ t. IsNew t.files c.in-Some.path (contents_of kind) in
     subst N c.self.view_is new
