@@ -126,3 +126,8 @@ module _ (facts : CardFacts) (content : Content) (kvn counter : ℕ) (tar body :
   pub took_on : (count : ℕ) (script : Script) → (took facts content kvn counter tar body count).script ≡ Some script
       → after_command (took facts content kvn counter tar body count) ≡ Some (took facts content kvn counter tar body (suc count))
   took_on count script left = took_on_for count script (script_part facts tar body) left
+
+-- Where a command is left of a script, the next one leads from the card behind so many commands to the card behind one more.
+abbrev pub CommandsLeadOn : Type 0
+CommandsLeadOn = (facts : CardFacts) (content : Content) (kvn counter : ℕ) (tar body : List ℕ) (count : ℕ) (script : Script) → (took facts content kvn counter tar body count).script ≡ Some script
+    → after_command (took facts content kvn counter tar body count) ≡ Some (took facts content kvn counter tar body (suc count))

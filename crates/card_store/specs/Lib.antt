@@ -1,3 +1,4 @@
+pub mod CardLaws
 pub mod Content
 pub mod Kept
 pub mod Laws

@@ -5,6 +5,7 @@ mod additions;
 mod card_lines;
 mod issued_facts;
 mod kept;
+mod laws;
 mod openings;
 mod parts;
 mod scripts;
@@ -12,6 +13,7 @@ mod store_errors;
 mod stores;
 
 pub use card_lines::CardLine;
+pub use laws::{commands_lead_on, stores_hold_cards};
 pub use store_errors::StoreErr;
 pub use stores::CardStore;
 

@@ -1,6 +1,5 @@
 // Stores on disks in memory: their octets, what they hold, what is refused, and what stands after a stop at each call.
-ghost use Rattle.std.specs.Prelude.{◌≡◌, ◌<◌, ◌^◌, true, None, IfOk};
-ghost use Rattle.card_store.specs.Store.{StoreValue};
+ghost use Rattle.std.specs.Prelude.{◌≡◌, ◌≤◌, true, None, IfOk};
 
 use crate::{CardLine, CardStore, StoreErr};
 use disk_model::{DiskCalls, DiskFault, Image, MemDisk};
@@ -18,13 +17,13 @@ const RAM: Tar = Tar([0x00, 0x00, 0x00]);
 const OTHER: Tar = Tar([0xB0, 0x00, 0x11]);
 
 /// Selects 6FA1, and writes 11 and 22 into its first two octets. 19 octets, three commands.
-const SCRIPT: [u8; 19] = [
+const SCRIPT: &[u8] = &[
     0x00, 0xA4, 0x00, 0x00, 0x02, 0x6F, 0xA1, 0x00, 0xD6, 0x00, 0x00, 0x01, 0x11, 0x00, 0xD6, 0x00,
     0x01, 0x01, 0x22,
 ];
 
 /// Puts keyset 2: counter mode higher, ciphered, and two keys of 16 octets. 41 octets.
-const PUT_KEY: [u8; 41] = [
+const PUT_KEY: &[u8] = &[
     0x80, 0xD8, 0x00, 0x02, 0x24, 0x02, 0x01, 0x10, 0x10, 0x11, 0x12, 0x13, 0x14, 0x15, 0x16, 0x17,
     0x18, 0x19, 0x1A, 0x1B, 0x1C, 0x1D, 0x1E, 0x1F, 0x10, 0x20, 0x21, 0x22, 0x23, 0x24, 0x25, 0x26,
     0x27, 0x28, 0x29, 0x2A, 0x2B, 0x2C, 0x2D, 0x2E, 0x2F,
@@ -36,7 +35,7 @@ const EMPTY: [u8; 11] = [
 ];
 
 /// The store behind counter 1 of keyset 1 with the script, and its three commands. 79 octets.
-const RAN: [u8; 79] = [
+const RAN: &[u8] = &[
     0xA5, 0x4F, 0x54, 0x41, 0x43, 0x01, 0x00, 0x00, 0x00, 0x00, 0xA5, 0x00, 0x00, 0x00, 0x21, 0x00,
     0x00, 0x00, 0x1D, 0x01, 0x01, 0x00, 0x00, 0x00, 0x00, 0x01, 0xB0, 0x00, 0x10, 0x00, 0xA4, 0x00,
     0x00, 0x02, 0x6F, 0xA1, 0x00, 0xD6, 0x00, 0x00, 0x01, 0x11, 0x00, 0xD6, 0x00, 0x01, 0x01, 0x22,
@@ -245,7 +244,7 @@ fn is_left_by_cut(alloc: Global, call: u32, image: Image) -> Result<bool, Fail>
 {
     let mut store = opened(alloc, MemDisk::new(alloc))?;
     store.arm(call, image);
-    match store_and_run(&mut store, 1, Counter(1), RFM, &SCRIPT)? {
+    match store_and_run(&mut store, 1, Counter(1), RFM, SCRIPT)? {
         Some(StoreErr::DiskFault(DiskFault::Failed)) => {}
         _ => return Ok(false),
     }
@@ -288,15 +287,15 @@ fn empty_disk_gets_a_store(rt: HostRuntime) -> Result<(), Fail> {
 fn script_leaves_its_counter_and_its_commands(rt: HostRuntime) -> Result<(), Fail> {
     let mut store = opened(rt.alloc(), MemDisk::new(rt.alloc()))?;
     let before = store.disk().calls().len();
-    let error = store_and_run(&mut store, 1, Counter(1), RFM, &SCRIPT)?;
+    let error = store_and_run(&mut store, 1, Counter(1), RFM, SCRIPT)?;
     assert!(rt; error.is_none());
     assert!(rt; store.disk().calls().len() == before + 16);
-    assert!(rt; store.disk().content() == RAN.as_slice());
+    assert!(rt; store.disk().content() == RAN);
     assert!(rt; has_parts(&store, 4));
     assert!(rt; store.counter(1) == Some(Counter(1)));
-    let again = opened_from(rt.alloc(), &RAN)?;
+    let again = opened_from(rt.alloc(), RAN)?;
     assert!(rt; has_parts(&again, 4));
-    assert!(rt; again.into_disk().content() == RAN.as_slice());
+    assert!(rt; again.into_disk().content() == RAN);
     Ok(())
 }
 
@@ -376,7 +375,7 @@ fn lines_have_their_status(rt: HostRuntime) -> Result<(), Fail> {
     let long = vec![in rt.alloc(); 0xFF; 34168]?;
     let cut_off: [u8; 9] = [0x00, 0xA4, 0x00, 0x00, 0x02, 0x6F, 0xA1, 0x00, 0xD6];
     let cases: [(Tar, &[u8]); 5] = [
-        (OTHER, &SCRIPT),
+        (OTHER, SCRIPT),
         (RFM, &long),
         (RAM, &[]),
         (RFM, &cut_off),
@@ -402,7 +401,7 @@ fn lines_have_their_status(rt: HostRuntime) -> Result<(), Fail> {
 #[test]
 fn keyset_that_was_put_has_a_counter(rt: HostRuntime) -> Result<(), Fail> {
     let mut store = opened(rt.alloc(), MemDisk::new(rt.alloc()))?;
-    let error = store_and_run(&mut store, 1, Counter(1), RAM, &PUT_KEY)?;
+    let error = store_and_run(&mut store, 1, Counter(1), RAM, PUT_KEY)?;
     assert!(rt; error.is_none());
     assert!(rt; store.counter(2) == Some(Counter(0)));
     assert!(rt;
@@ -410,7 +409,7 @@ fn keyset_that_was_put_has_a_counter(rt: HostRuntime) -> Result<(), Fail> {
             .keyset(2)
             .is_some_and(|keyset| keyset.base == Counter(0))
     );
-    let error = store_and_run(&mut store, 2, Counter(5), RFM, &SCRIPT)?;
+    let error = store_and_run(&mut store, 2, Counter(5), RFM, SCRIPT)?;
     assert!(rt; error.is_none());
     let again = opened_from(rt.alloc(), store.disk().content())?;
     assert!(rt; again.counter(2) == Some(Counter(5)));
@@ -419,33 +418,50 @@ fn keyset_that_was_put_has_a_counter(rt: HostRuntime) -> Result<(), Fail> {
     Ok(())
 }
 
-/// The octets of a store of this length, with one counter and a script of FF.
-fn long_store(alloc: Global, len: usize) -> Result<Vec<u8>, Fail>
-    requires { 30 ≤ len }
+/// The greatest length of a store.
+const LIMIT: usize = 16_777_216;
+
+/// What a counter with a SELECT needs: 19 octets, the 7 of its script, and 10 for its command.
+const NEED: usize = 36;
+
+/// The octets of a store that has so many fewer than the greatest length, with one counter and a script of FF.
+fn long_store(alloc: Global, short: usize) -> Result<Vec<u8>, Fail>
+    requires { short ≤ 100 }
 {
-    let mut part = vec![in alloc; 0xFF; len - 20]?;
+    let mut part = vec![in alloc; 0xFF; LIMIT - 20 - short]?;
     part[..10].copy_from_slice(&ONE[..10]);
     let parts: [&[u8]; 1] = [&part];
     log(alloc, &parts)
 }
 
+/// What a store that has so many fewer octets than the greatest length answers to a counter with a SELECT, and how many
+/// device calls that makes.
+fn told_by(alloc: Global, short: usize, tar: Tar) -> Result<(Option<StoreErr>, usize), Fail>
+    requires { short ≤ 100 }
+{
+    let octets = long_store(alloc, short)?;
+    let mut store = opened_from(alloc, &octets)?;
+    let before = store.disk().calls().len();
+    let error = store_and_run(&mut store, 1, Counter(2), tar, &SCRIPT[..7])?;
+    Ok((error, store.disk().calls().len().wrapping_sub(before)))
+}
+
 #[test]
 fn full_store_is_told_before_a_write(rt: HostRuntime) -> Result<(), Fail> {
-    // a SELECT needs 36 octets: 19, its own 7, and 10 for its command
-    let octets = long_store(rt.alloc(), 16_777_216 - 35)?;
-    let mut store = opened_from(rt.alloc(), &octets)?;
-    let before = store.disk().calls().len();
+    let told = told_by(rt.alloc(), NEED - 1, OTHER)?;
     let want = StoreErr::Full {
-        length: 16_777_181,
-        need: 36,
+        length: (LIMIT - NEED + 1) as u64,
+        need: NEED as u64,
     };
-    let error = self::store(&mut store, 1, Counter(2), OTHER, &SCRIPT[..7])?;
-    assert!(rt; error == Some(want));
-    assert!(rt; store.disk().calls().len() == before);
-    let octets = long_store(rt.alloc(), 16_777_216 - 36)?;
-    let mut store = opened_from(rt.alloc(), &octets)?;
-    let error = store_and_run(&mut store, 1, Counter(2), RFM, &SCRIPT[..7])?;
-    assert!(rt; error.is_none());
-    assert_eq!(rt; store.length(), 16_777_216);
+    assert!(rt; told.0 == Some(want));
+    assert_eq!(rt; told.1, 0);
+    Ok(())
+}
+
+#[test]
+fn store_takes_what_fits_exactly(rt: HostRuntime) -> Result<(), Fail> {
+    let told = told_by(rt.alloc(), NEED, RFM)?;
+    assert!(rt; told.0.is_none());
+    assert_eq!(rt; told.1, 8);
     Ok(())
 }
