@@ -26,6 +26,10 @@ const ODD_PLAN: &str =
 const ODD_PLAN_OTHER_KID: &str =
     "campaign = 7\n[[card]]\nnumber = 8901\n[[keyset]]\ncard = 8901\nkvn = 1\nkic = \"000102030405060708090a0b0c0d0e0f\"\nkid = \"2b7e151628aed2a6abf7158809cf4f3d\"\n";
 
+/// The plan of card 8901, and card 8900 with another key in a keyset that is put later.
+const LATER_PLAN: &str =
+    "campaign = 7\n[[card]]\nnumber = 8900\n[[card]]\nnumber = 8901\n[[keyset]]\ncard = 8900\nkvn = 1\nkic = \"000102030405060708090a0b0c0d0e0f\"\nkid = \"000102030405060708090a0b0c0d0e0f\"\nput = true\n[[keyset]]\ncard = 8901\nkvn = 1\nkic = \"000102030405060708090a0b0c0d0e0f\"\nkid = \"2b7e151628aed2a6abf7158809cf4f3c\"\n";
+
 const KIC: [u8; 16] = [
     0x00, 0x01, 0x02, 0x03, 0x04, 0x05, 0x06, 0x07, 0x08, 0x09, 0x0A, 0x0B, 0x0C, 0x0D, 0x0E, 0x0F,
 ];
@@ -415,6 +419,13 @@ fn a_keyset_with_other_facts_than_the_plan_is_named(rt: HostRuntime) -> Result<(
     assert_eq!(rt; otherwise(alloc, ODD, ODD_PLAN_OTHER_KID)?, keyset);
     // opened from another counter
     assert_eq!(rt; otherwise(alloc, ODD_ALMOST_OUT, ODD_PLAN)?, keyset);
+    // one that is put later stands behind the others
+    assert_eq!(rt; otherwise(alloc, ODD_ALMOST_OUT, LATER_PLAN)?, keyset);
+    let later = Some(KeysetId {
+        card: CardId(8900),
+        kvn: 1,
+    });
+    assert_eq!(rt; otherwise(alloc, ODD, LATER_PLAN)?, later);
     Ok(())
 }
 

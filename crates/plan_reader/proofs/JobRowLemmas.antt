@@ -117,11 +117,11 @@ not-again plan number before [] right there = refl
 not-again plan number before (row ∷ rows) right there =
     let (is, more) = right-rows plan before row rows right in
     let other : ((job_said plan row).id.job == number) ≡ false =
-      rw (said-number plan row is.number is.number_is)
-      (elim (cases_Bool (is.number == number)) [
-        | inl same ↦ absurd (false≢true (sym is.fresh ∙ rw (eqb-true is.number number same) there))
-        | inr other ↦ other
-      ]) in
+    rw (said-number plan row is.number is.number_is)
+    (elim (cases_Bool (is.number == number)) [
+      | inl same ↦ absurd (false≢true (sym is.fresh ∙ rw (eqb-true is.number number same) there))
+      | inr other ↦ other
+    ]) in
     rw other (not-again plan number (before ++ job_said plan row ∷ []) rows more (rw (list_any-append (λ job. job.id.job == number) before (job_said plan row ∷ []), there) refl))
 
 -- no job has a number that no job has with a campaign
@@ -144,7 +144,7 @@ jobs-distinct plan before (row ∷ rows) right =
     let (is, more) = right-rows plan before row rows right in
     let job = job_said plan row in
     let here : has_job_number job.id.job (before ++ job ∷ []) ≡ true =
-      rw (list_any-append (λ other. other.id.job == job.id.job) before (job ∷ []), same-number job.id.job) (or-true _) in
+    rw (list_any-append (λ other. other.id.job == job.id.job) before (job ∷ []), same-number job.id.job) (or-true _) in
     rw (no-job job.id (map (job_said plan) rows) (not-again plan job.id.job (before ++ job ∷ []) rows more here)) (jobs-distinct plan (before ++ job ∷ []) rows more)
   where
     same-number : (number : ℕ) → (number == number) ≡ true

@@ -132,8 +132,8 @@ pub placed-push : (places new : BTreeMap ℕ ℕ) (cards : List CardFacts) (card
     → Updates nat_cmp places new card.card.0 (Some (length cards)) → IsPlaced new (cards ++ card ∷ [])
 placed-push places new cards card is none updates = record {
   found = λ number.
-    let test : CardFacts → Bool = λ other. other.card.0 == number in
-    found_by card.card.0 number (length cards) (get nat_cmp places number) (get nat_cmp new number) (place_of number cards) (has_number number cards)
+      let test : CardFacts → Bool = λ other. other.card.0 == number in
+      found_by card.card.0 number (length cards) (get nat_cmp places number) (get nat_cmp new number) (place_of number cards) (has_number number cards)
       (updates.0 number) (is.found number) (position-any test 0 cards) (same_number card.card.0 number cards none)
       ∙ sym (position-push test 0 cards card ∙ rw (zero-add (length cards)) refl);
   distinct = own_push cards card is.distinct none;
@@ -297,10 +297,10 @@ pub listed-push : (ids new_ids : BTreeSet Keyset) (kids new_kids : BTreeSet (Vec
     → IsListed new_ids new_kids (listings ++ listing ∷ [])
 listed-push ids new_ids kids new_kids listings listing kid is none said updates keys = record {
   found = λ id.
-    updates.0 id ∙ rw (is_eq-keyset_cmp listing.id id, is.found id, list_any-append (λ other. is_same_keyset other.id id) listings (listing ∷ []))
+      updates.0 id ∙ rw (is_eq-keyset_cmp listing.id id, is.found id, list_any-append (λ other. is_same_keyset other.id id) listings (listing ∷ []))
       (cond-or (is_same_keyset listing.id id) (lists_keyset id listings) ∙ or-last (is_same_keyset listing.id id) (lists_keyset id listings));
   found_kid = λ wanted.
-    rw (keys, any-insert kid_cmp (λ key. is_eq (slice_cmp nat_cmp wanted key.items)) kid (same_octets wanted kid) kids.keys, is.found_kid wanted, said, is_eq-slice_cmp wanted listing.facts.kid, list_any-append (λ other. bytes_eq other.facts.kid wanted) listings (listing ∷ []), bytes_eq-comm wanted listing.facts.kid)
+      rw (keys, any-insert kid_cmp (λ key. is_eq (slice_cmp nat_cmp wanted key.items)) kid (same_octets wanted kid) kids.keys, is.found_kid wanted, said, is_eq-slice_cmp wanted listing.facts.kid, list_any-append (λ other. bytes_eq other.facts.kid wanted) listings (listing ∷ []), bytes_eq-comm wanted listing.facts.kid)
       (or-last (bytes_eq listing.facts.kid wanted) (has_kid wanted listings));
   distinct = own_ids_push listings listing is.distinct none;
 }

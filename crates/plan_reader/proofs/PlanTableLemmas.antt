@@ -76,7 +76,7 @@ pub all-same-issued : (listings : List Listing) (listing : Listing) (cards : Lis
 all-same-issued listings listing [] later = refl
 all-same-issued listings listing (card ∷ cards) later =
     rw (← all-same-issued listings listing cards later, filter_map-append _ listings (listing ∷ []), later)
-      (elim (cases_Bool (listing.id.card.0 == card.card.0)) [ inl own ↦ rw (own, append-nil _) refl | inr other ↦ rw (other, append-nil _) refl ])
+    (elim (cases_Bool (listing.id.card.0 == card.card.0)) [ inl own ↦ rw (own, append-nil _) refl | inr other ↦ rw (other, append-nil _) refl ])
 
 pub more-later : (listings : List Listing) (listing : Listing) → listing.later ≡ true → later_of listings ++ (listing.id, listing.facts) ∷ [] ≡ later_of (listings ++ listing ∷ [])
 more-later listings listing later = rw (filter_map-append _ listings (listing ∷ []), later) refl

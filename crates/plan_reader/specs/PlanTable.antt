@@ -119,13 +119,13 @@ keyset_said keyset =
     record {
       id = record { card = record { 0 = unwrap_or (card_of_keyset keyset) 0 }; kvn = unwrap_or (kvn_of keyset) 0 };
       facts =
-        record {
-          base = unwrap_or (base_of keyset) 0;
-          mode = unwrap_or (mode_of keyset) Higher;
-          ciphered = unwrap_or (cipher_of keyset) true;
-          kic = unwrap_or (kic_of keyset) [];
-          kid = unwrap_or (kid_of keyset) [];
-        };
+          record {
+            base = unwrap_or (base_of keyset) 0;
+            mode = unwrap_or (mode_of keyset) Higher;
+            ciphered = unwrap_or (cipher_of keyset) true;
+            kic = unwrap_or (kic_of keyset) [];
+            kid = unwrap_or (kid_of keyset) [];
+          };
       later = unwrap_or (put_of keyset) false;
     }
 

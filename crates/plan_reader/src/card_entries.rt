@@ -10,11 +10,10 @@ ghost use Rattle.plan_reader.specs.declared.tables.Table.TheVariants as which;
 ghost use Rattle.plan_reader.specs.declared.tables.Field.TheVariants as field;
 
 use crate::card_table::CardTable;
-use crate::documents;
 use crate::field_values::{number_at, number_or, tar_or, truth_or};
 use crate::plans::PlanErr;
-use crate::tables;
 use crate::tables::Field;
+use crate::{documents, tables};
 use ota_core::{CardFacts, CardId, KeysetList, Tar};
 use std::alloc::Global;
 use toml::Table;

@@ -48,18 +48,31 @@ fn is_refused(alloc: Global, plan: &Plan, text: &[u8], row: u32, column: Column)
 fn each_column_of_a_job_is_read(rt: HostRuntime) -> Result<(), Fail> {
     let alloc = rt.alloc();
     let plan = plan(alloc)?;
-    let text = "job,card,kvn,tar,script\n0000000002,8901,12,B00010,00Ff\r\n\"1\",000000000000008902,01,\"000000\",\"0a\"";
+    let text =
+        "job,card,kvn,tar,script\n0000000002,8901,12,B00010,00Ff\r\n\"1\",000000000000008902,01,\"000000\",\"0a\"";
     let jobs = match read_jobs(alloc, text.as_bytes(), &plan) {
         Ok(jobs) => jobs,
         Err(_) => return Err(Fail::from("no jobs")),
     };
     assert_eq!(rt; jobs.len(), 2);
-    assert_eq!(rt; jobs[0].id, JobId { campaign: 7, job: 2 });
+    assert_eq!(rt;
+        jobs[0].id,
+        JobId {
+            campaign: 7,
+            job: 2
+        }
+    );
     assert_eq!(rt; jobs[0].keyset.card, CardId(8901));
     assert_eq!(rt; jobs[0].keyset.kvn, 12);
     assert_eq!(rt; jobs[0].tar, Tar([0xb0, 0x00, 0x10]));
     assert!(rt; jobs[0].body.as_slice() == [0x00, 0xff].as_slice());
-    assert_eq!(rt; jobs[1].id, JobId { campaign: 7, job: 1 });
+    assert_eq!(rt;
+        jobs[1].id,
+        JobId {
+            campaign: 7,
+            job: 1
+        }
+    );
     assert_eq!(rt; jobs[1].keyset.card, CardId(8902));
     assert_eq!(rt; jobs[1].keyset.kvn, 1);
     assert_eq!(rt; jobs[1].tar, Tar([0x00, 0x00, 0x00]));
@@ -75,11 +88,21 @@ fn other_forms_of_a_list_are_read(rt: HostRuntime) -> Result<(), Fail> {
         ("job,card,kvn,tar,script", 0),
         ("job,card,kvn,tar,script\n", 0),
         ("\u{feff}job,card,kvn,tar,script\r\n", 0),
-        ("\n\n\"job\",\"card\",kvn,tar,script\n\n\n0,8902,1,b00010,00\n\n", 1),
-        ("job,card,kvn,tar,script\r1,8902,1,b00010,00\r2,8902,1,b00010,00", 2),
+        (
+            "\n\n\"job\",\"card\",kvn,tar,script\n\n\n0,8902,1,b00010,00\n\n",
+            1,
+        ),
+        (
+            "job,card,kvn,tar,script\r1,8902,1,b00010,00\r2,8902,1,b00010,00",
+            2,
+        ),
         ("job,card,kvn,tar,script\n4294967295,8902,1,b00010,00", 1),
     ] {
-        assert_eq!(rt; count(alloc, &plan, text.as_bytes()), Some(jobs), "at {text}");
+        assert_eq!(rt;
+            count(alloc, &plan, text.as_bytes()),
+            Some(jobs),
+            "at {text}"
+        );
     }
     Ok(())
 }
@@ -101,7 +124,10 @@ fn each_refusal_of_the_header(rt: HostRuntime) -> Result<(), Fail> {
         "\"job,card,kvn,tar,script\"",
         "1,8902,1,b00010,00\njob,card,kvn,tar,script",
     ] {
-        assert!(rt; is_refused(alloc, &plan, text.as_bytes(), 0, Column::Header), "at {text}");
+        assert!(rt;
+            is_refused(alloc, &plan, text.as_bytes(), 0, Column::Header),
+            "at {text}"
+        );
     }
     Ok(())
 }
@@ -143,9 +169,20 @@ fn each_refusal_of_a_column(rt: HostRuntime) -> Result<(), Fail> {
         ("2,8902,1,b00010,00 ", Column::Script),
     ] {
         let text = format!(in alloc; "job,card,kvn,tar,script\n1,8902,1,b00010,00\n{row}\n3\n")?;
-        assert!(rt; is_refused(alloc, &plan, text.as_bytes(), 2, column), "at {row}");
+        assert!(rt;
+            is_refused(alloc, &plan, text.as_bytes(), 2, column),
+            "at {row}"
+        );
     }
-    assert!(rt; is_refused(alloc, &plan, b"job,card,kvn,tar,script\n1,8902,1,b00010,\xff\xff", 1, Column::Script));
+    assert!(rt;
+        is_refused(
+            alloc,
+            &plan,
+            b"job,card,kvn,tar,script\n1,8902,1,b00010,\xff\xff",
+            1,
+            Column::Script
+        )
+    );
     Ok(())
 }
 
@@ -191,9 +228,16 @@ fn limits_of_a_list(rt: HostRuntime) -> Result<(), Fail> {
     ] {
         let text = script_text(alloc, keyset, octets)?;
         if is_read {
-            assert_eq!(rt; count(alloc, &plan, text.as_bytes()), Some(1), "at {octets}");
+            assert_eq!(rt;
+                count(alloc, &plan, text.as_bytes()),
+                Some(1),
+                "at {octets}"
+            );
         } else {
-            assert!(rt; is_refused(alloc, &plan, text.as_bytes(), 1, Column::Script), "at {octets}");
+            assert!(rt;
+                is_refused(alloc, &plan, text.as_bytes(), 1, Column::Script),
+                "at {octets}"
+            );
         }
     }
     Ok(())

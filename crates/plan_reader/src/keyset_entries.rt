@@ -10,12 +10,11 @@ ghost use Rattle.plan_reader.specs.declared.tables.Table.TheVariants as which;
 ghost use Rattle.plan_reader.specs.declared.tables.Field.TheVariants as field;
 
 use crate::card_table::CardTable;
-use crate::documents;
 use crate::field_values::{counter_or, key_at, mode_or, number_at, truth_or};
 use crate::keyset_table::{KeysetTable, Listing};
 use crate::plans::PlanErr;
-use crate::tables;
 use crate::tables::Field;
+use crate::{documents, tables};
 use ota_core::{CardId, Counter, KeyBytes, KeysetFacts, KeysetId, Mode};
 use std::alloc::Global;
 use toml::Table;

@@ -13,9 +13,9 @@ mod field_values;
 mod hexadecimals;
 mod job_lists;
 mod job_rows;
+mod job_table;
 #[cfg(test)]
 mod job_tests;
-mod job_table;
 mod keyset_entries;
 mod keyset_table;
 mod numbers;

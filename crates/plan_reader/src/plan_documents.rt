@@ -9,14 +9,13 @@ ghost use Rattle.plan_reader.specs.TableList.{tables_said, tables_pointed};
 
 use crate::card_entries::read_cards;
 use crate::card_table::CardTable;
-use crate::documents;
 use crate::documents::{document, tables_at};
 use crate::field_values::number_at;
 use crate::keyset_entries::read_keysets;
 use crate::keyset_table::{KeysetTable, Listing};
 use crate::plans::{LaterList, Plan, PlanErr};
-use crate::tables;
 use crate::tables::Field;
+use crate::{documents, tables};
 use ota_core::Memory;
 use std::alloc::Global;
 use toml::Table;

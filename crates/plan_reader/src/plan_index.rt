@@ -97,10 +97,7 @@ fn keysets_of(alloc: Global, plan: &Plan) -> Result<BTreeSet<KeysetId>, Memory>
 }
 
 /// The set with the keysets with which a card is issued.
-fn with_issued(
-    keysets: BTreeSet<KeysetId>,
-    card: &CardFacts,
-) -> Result<BTreeSet<KeysetId>, Memory>
+fn with_issued(keysets: BTreeSet<KeysetId>, card: &CardFacts) -> Result<BTreeSet<KeysetId>, Memory>
     ensures { IfOk result (λ more. (keyset : Keyset) → contains keyset_cmp more keyset ≡ (contains keyset_cmp keysets keyset || is_keyset_of keyset card.now)) }
 {
     let mut keysets = keysets;

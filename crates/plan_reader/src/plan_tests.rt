@@ -51,7 +51,8 @@ fn is_refused(alloc: Global, text: &[u8], table: Table, row: u32, field: Field) 
 
 /// A plan with these lines in its first card and these in its second keyset.
 fn with_lines(alloc: Global, card: &str, keyset: &str) -> Result<String, AllocError> {
-    format!(in alloc; "campaign = 7
+    format!(in alloc;
+        "campaign = 7
 [[card]]
 number = 8900
 [[card]]
@@ -63,12 +64,14 @@ kic = \"000102030405060708090a0b0c0d0e0f\"
 kid = \"2b7e151628aed2a6abf7158809cf4f3c\"
 [[keyset]]
 {keyset}
-")
+"
+    )
 }
 
 const CARD: &str = "number = 8901";
 
-const KEYSET: &str = "card = 8901\nkvn = 1\nkic = \"000102030405060708090a0b0c0d0e0f\"\nkid = \"000102030405060708090a0b0c0d0e0f\"";
+const KEYSET: &str =
+    "card = 8901\nkvn = 1\nkic = \"000102030405060708090a0b0c0d0e0f\"\nkid = \"000102030405060708090a0b0c0d0e0f\"";
 
 #[test]
 fn each_field_of_a_plan_is_read(rt: HostRuntime) -> Result<(), Fail> {
@@ -144,7 +147,10 @@ fn each_refusal_of_the_top(rt: HostRuntime) -> Result<(), Fail> {
         "campaign = 9223372036854775808",
         "[[card]]\nnumber = 1\n[card]\n",
     ] {
-        assert!(rt; is_refused(alloc, text.as_bytes(), Table::Top, 0, Field::Text), "at {text}");
+        assert!(rt;
+            is_refused(alloc, text.as_bytes(), Table::Top, 0, Field::Text),
+            "at {text}"
+        );
     }
     assert!(rt; is_refused(alloc, b"campaign = 1 # \xff", Table::Top, 0, Field::Text));
     assert!(rt; is_refused(alloc, b"\x80", Table::Top, 0, Field::Text));
@@ -153,7 +159,10 @@ fn each_refusal_of_the_top(rt: HostRuntime) -> Result<(), Fail> {
         "campaign = -1\nkeysets = []\n",
         "card = 1\nx.y = 1\n",
     ] {
-        assert!(rt; is_refused(alloc, text.as_bytes(), Table::Top, 0, Field::Unknown), "at {text}");
+        assert!(rt;
+            is_refused(alloc, text.as_bytes(), Table::Top, 0, Field::Unknown),
+            "at {text}"
+        );
     }
     for text in [
         "",
@@ -164,21 +173,30 @@ fn each_refusal_of_the_top(rt: HostRuntime) -> Result<(), Fail> {
         "campaign = 1.0",
         "campaign = [1]\ncard = 1",
     ] {
-        assert!(rt; is_refused(alloc, text.as_bytes(), Table::Top, 0, Field::Campaign), "at {text}");
+        assert!(rt;
+            is_refused(alloc, text.as_bytes(), Table::Top, 0, Field::Campaign),
+            "at {text}"
+        );
     }
     for text in [
         "campaign = 1\ncard = 1",
         "campaign = 1\n[card]\nnumber = 1\n",
         "campaign = 1\ncard = [{ number = 1 }, 2]\nkeyset = 1\n",
     ] {
-        assert!(rt; is_refused(alloc, text.as_bytes(), Table::Card, 0, Field::Text), "at {text}");
+        assert!(rt;
+            is_refused(alloc, text.as_bytes(), Table::Card, 0, Field::Text),
+            "at {text}"
+        );
     }
     for text in [
         "campaign = 1\nkeyset = \"\"",
         "campaign = 1\n[keyset]\n",
         "campaign = 1\nkeyset = [[]]\n",
     ] {
-        assert!(rt; is_refused(alloc, text.as_bytes(), Table::Keyset, 0, Field::Text), "at {text}");
+        assert!(rt;
+            is_refused(alloc, text.as_bytes(), Table::Keyset, 0, Field::Text),
+            "at {text}"
+        );
     }
     Ok(())
 }
@@ -208,7 +226,10 @@ fn each_refusal_of_a_card(rt: HostRuntime) -> Result<(), Fail> {
         ("number = 8901\nwide = 0", Field::Wide),
     ] {
         let text = with_lines(alloc, card, "kvn = 0")?;
-        assert!(rt; is_refused(alloc, text.as_bytes(), Table::Card, 2, field), "at {card}");
+        assert!(rt;
+            is_refused(alloc, text.as_bytes(), Table::Card, 2, field),
+            "at {card}"
+        );
     }
     Ok(())
 }
@@ -230,19 +251,31 @@ fn each_refusal_of_a_keyset(rt: HostRuntime) -> Result<(), Fail> {
         ("card = 8900\nkvn = 1", Field::Kvn),
         ("card = 8901\nkvn = 1\nkid = 1", Field::Kic),
         ("card = 8901\nkvn = 1\nkic = \"00\"", Field::Kic),
-        ("card = 8901\nkvn = 1\nkic = \"000102030405060708090a0b0c0d0e0g\"", Field::Kic),
+        (
+            "card = 8901\nkvn = 1\nkic = \"000102030405060708090a0b0c0d0e0g\"",
+            Field::Kic,
+        ),
     ] {
         let text = with_lines(alloc, CARD, keyset)?;
-        assert!(rt; is_refused(alloc, text.as_bytes(), Table::Keyset, 2, field), "at {keyset}");
+        assert!(rt;
+            is_refused(alloc, text.as_bytes(), Table::Keyset, 2, field),
+            "at {keyset}"
+        );
     }
     for (rest, field) in [
         ("", Field::Kid),
         ("kid = \"000102030405060708090a0b0c0d0e0f0\"", Field::Kid),
-        ("kid = \"2B7E151628aed2a6abf7158809cf4f3c\"\ncipher = 1", Field::Kid),
+        (
+            "kid = \"2B7E151628aed2a6abf7158809cf4f3c\"\ncipher = 1",
+            Field::Kid,
+        ),
     ] {
         let keyset = format!(in alloc; "card = 8901\nkvn = 1\n{kic}\n{rest}")?;
         let text = with_lines(alloc, CARD, keyset.as_str())?;
-        assert!(rt; is_refused(alloc, text.as_bytes(), Table::Keyset, 2, field), "at {rest}");
+        assert!(rt;
+            is_refused(alloc, text.as_bytes(), Table::Keyset, 2, field),
+            "at {rest}"
+        );
     }
     for (rest, field) in [
         ("cipher = \"true\"\nmode = 1", Field::Cipher),
@@ -258,7 +291,10 @@ fn each_refusal_of_a_keyset(rt: HostRuntime) -> Result<(), Fail> {
     ] {
         let keyset = format!(in alloc; "card = 8901\nkvn = 1\n{kic}\n{kid}\n{rest}")?;
         let text = with_lines(alloc, CARD, keyset.as_str())?;
-        assert!(rt; is_refused(alloc, text.as_bytes(), Table::Keyset, 2, field), "at {rest}");
+        assert!(rt;
+            is_refused(alloc, text.as_bytes(), Table::Keyset, 2, field),
+            "at {rest}"
+        );
     }
     Ok(())
 }

@@ -105,4 +105,3 @@ impl From<Memory> for PlanErr {
         PlanErr::Memory
     }
 }
-

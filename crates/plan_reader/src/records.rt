@@ -22,10 +22,7 @@ pub(crate) fn open_records(alloc: Global, octets: &[u8]) -> Reader<&[u8]>
 }
 
 /// Takes the next record, if there is one.
-pub(crate) fn next_record(
-    reader: &mut Reader<&[u8]>,
-    row: &mut ByteRecord,
-) -> Result<bool, Memory>
+pub(crate) fn next_record(reader: &mut Reader<&[u8]>, row: &mut ByteRecord) -> Result<bool, Memory>
     requires reading { IsReading reader.old }
     ensures reading { IfOk result (λ found. OnTrue found (IsReading reader.new)) }
     ensures takes { IfOk result (λ found. Takes (rows_left reader.old) found (fields_of row.new) (rows_left reader.new)) }
