@@ -67,9 +67,9 @@ unfolding command_octets
 carries-what_is_built keys kvn spi tar counter body above below three small fits octets =
     with_tar (λ t. carries keys kvn (packet_octets keys kvn spi t counter (padding_of spi body) (with_padding (padding_of spi body) body)) ≡ Ok (record { kvn = kvn; spi = spi; tar = t; counter = counter; body = body }))
     (λ a b c.
-      let t : List ℕ = a ∷ b ∷ c ∷ [] in
-      carries-built keys kvn spi a b c counter (padding_of spi body) body (sent spi.ciphered keys.kic (part keys kvn spi t counter body)) above below small fits refl
-      (checksum-eight keys.kid (checked_octets spi kvn t counter (padding_of spi body) (with_padding (padding_of spi body) body)))
-      (sent-undone spi.ciphered keys.kic (part keys kvn spi t counter body) (part-octets keys kvn spi t counter body octets) (whole keys kvn spi t counter body))
-      (sent-len keys kvn spi t counter body))
+    let t : List ℕ = a ∷ b ∷ c ∷ [] in
+    carries-built keys kvn spi a b c counter (padding_of spi body) body (sent spi.ciphered keys.kic (part keys kvn spi t counter body)) above below small fits refl
+    (checksum-eight keys.kid (checked_octets spi kvn t counter (padding_of spi body) (with_padding (padding_of spi body) body)))
+    (sent-undone spi.ciphered keys.kic (part keys kvn spi t counter body) (part-octets keys kvn spi t counter body octets) (whole keys kvn spi t counter body))
+    (sent-len keys kvn spi t counter body))
     tar three
