@@ -7,7 +7,7 @@ mod lane_file;
 use disk_model::FileDisk;
 use input_file::InputFile;
 use lane_file::lane_file;
-use ota_commands::{Fault, plain_command, read_words};
+use ota_commands::{Fault, dry_run, plain_command, read_words};
 use ota_io::{StdSink, StdSource};
 use site_model::BareSite;
 use std::alloc::AllocError;
@@ -32,6 +32,10 @@ fn end_with(rt: &impl Eprint, fault: Fault) -> ExitCode {
 fn run(rt: &HostRuntime) -> Result<Option<Fault>, AllocError> {
     let alloc = rt.alloc();
     let words = words(rt)?;
+    if word(&words, 0) == "try" {
+        let mut out = StdSink::new(io::writer(rt));
+        return Ok(dry_run(alloc, &words, &mut out).fault);
+    }
     let mut plan = StdSource::new(InputFile::open(rt, word(&words, 6)));
     let mut jobs = StdSource::new(InputFile::open(rt, word(&words, 8)));
     let mut out = StdSink::new(io::writer(rt));
