@@ -12,6 +12,10 @@ use std::test::Fail;
 const PLAN: &str =
     "campaign = 7\n[[card]]\nnumber = 8901\n[[keyset]]\ncard = 8901\nkvn = 1\nkic = \"000102030405060708090a0b0c0d0e0f\"\nkid = \"2b7e151628aed2a6abf7158809cf4f3c\"\n";
 
+/// Two cards whose keysets have one key for the checksum.
+const ONE_KEY_PLAN: &str =
+    "campaign = 7\n[[card]]\nnumber = 8901\n[[card]]\nnumber = 8902\n[[keyset]]\ncard = 8901\nkvn = 1\nkic = \"000102030405060708090a0b0c0d0e0f\"\nkid = \"2b7e151628aed2a6abf7158809cf4f3c\"\n[[keyset]]\ncard = 8902\nkvn = 1\nkic = \"000102030405060708090a0b0c0d0e0f\"\nkid = \"2b7e151628aed2a6abf7158809cf4f3c\"\n";
+
 /// The same plan with another last octet of the key for the checksum.
 const OTHER_PLAN: &str =
     "campaign = 7\n[[card]]\nnumber = 8901\n[[keyset]]\ncard = 8901\nkvn = 1\nkic = \"000102030405060708090a0b0c0d0e0f\"\nkid = \"2b7e151628aed2a6abf7158809cf4f3d\"\n";
@@ -609,11 +613,15 @@ fn words_say_their_command_and_lanes(rt: HostRuntime) -> Result<(), Fail> {
 fn inputs_without_a_reading_are_refused(rt: HostRuntime) -> Result<(), Fail> {
     let alloc = rt.alloc();
     let mut no_plan = with_jobs(HEADER);
-    no_plan.plan = "";
+    no_plan.plan = "campaign";
     let fault = Fault::PlanRefused(Table::Top, 0, Field::Text);
     assert!(rt; came_to(alloc, &no_plan, EMPTY, Some(fault), "", 11)?);
+    let mut one_key = with_jobs(HEADER);
+    one_key.plan = ONE_KEY_PLAN;
+    let fault = Fault::PlanRefused(Table::Keyset, 2, Field::Kid);
+    assert!(rt; came_to(alloc, &one_key, EMPTY, Some(fault), "", 11)?);
     let twice = text_of(alloc, &[HEADER, FIRST, FIRST])?;
-    let fault = Fault::JobsRefused(0, Column::Header);
+    let fault = Fault::JobsRefused(2, Column::Job);
     assert!(rt; came_to(alloc, &with_jobs(&twice), EMPTY, Some(fault), "", 11)?);
     Ok(())
 }

@@ -1,5 +1,5 @@
 -- The first thing that is wrong.
-use Rattle.std.specs.Prelude.{ℕ, Bool, true, false, Option, Some, None, Result, Ok, Err, List, [], ◌∷◌}
+use Rattle.std.specs.Prelude.{Bool, true, false, Option, Some, None, Result, Ok, Err, List, [], ◌∷◌}
 
 -- a test of an input, and what it is refused with where the test finds it wrong
 abbrev pub Check : Type 0 → Type 0

@@ -1,7 +1,7 @@
 -- What a value of a TOML document says as a field of the plan.
 use Rattle.std.specs.Prelude.{ℕ, ◌+◌, ◌*◌, ◌/◌, nat_le, ◌&&◌, ◌||◌, not, Bool, false, if◌then◌else◌, ℤ, pos, negsuc, Option, Some, None, option_map, List, [], ◌∷◌, length, slice_index, codes, bytes_eq}
 use Rattle.std.specs.List.{list_any}
-use Rattle.toml.specs.Data.{Data, Items, no_items, item, Members, no_members, member, get_member, as_integer, as_str, as_bool, as_array, as_table}
+use Rattle.toml.specs.Data.{Data, Items, no_items, item, Members, no_members, member, get_member, as_integer, as_str, as_array, as_table}
 use Rattle.ota_core.specs.KeyBytes.{is_key_length}
 use Rattle.ota_core.specs.declared.keysets.Mode.{Mode}
 use Rattle.ota_core.specs.declared.keysets.Mode.TheVariants.{Higher, Next}

@@ -1,5 +1,5 @@
 -- The plan as the tables of a TOML document: each table's fields, what they must be, and the plan that they say.
-use Rattle.std.specs.Prelude.{◌≡◌, ℕ, ◌+◌, nat_lt, ◌==◌, ◌&&◌, not, Bool, true, false, if◌then◌else◌, Option, Some, None, is_none, option_map, unwrap_or, Result, Ok, Err, List, [], ◌∷◌, ◌++◌, length, map, codes, bytes_eq}
+use Rattle.std.specs.Prelude.{◌≡◌, ℕ, ◌+◌, nat_lt, ◌==◌, ◌&&◌, not, Bool, true, false, if◌then◌else◌, Option, Some, None, is_none, option_map, unwrap_or, Result, Err, List, [], ◌∷◌, ◌++◌, length, map, codes, bytes_eq}
 use Rattle.std.specs.Option.{option_or}
 use Rattle.std.specs.List.{list_any, filter_map}
 use Rattle.std.specs.Str.{is_utf8}
@@ -10,7 +10,6 @@ use Rattle.ota_core.specs.declared.cards.CardFacts.{CardFacts}
 use Rattle.ota_core.specs.declared.keysets.KeysetFacts.{KeysetFacts}
 use Rattle.ota_core.specs.declared.keysets.Mode.{Mode}
 use Rattle.ota_core.specs.declared.keysets.Mode.TheVariants.{Higher}
-use Rattle.plan_reader.specs.Text.{◌>>=◌}
 use Rattle.plan_reader.specs.Check.{Check, first_wrong, is_wrong, outcome}
 use Rattle.plan_reader.specs.FieldValue.{number_in, octets_in, key_in, counter_in, mode_in, tables_in, needed, defaulted, has_other_name}
 use Rattle.plan_reader.specs.declared.keyset_table.Listing.{Listing}

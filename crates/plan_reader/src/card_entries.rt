@@ -1,6 +1,6 @@
 //! The tables of a plan that list its cards.
 
-ghost use Rattle.std.specs.Prelude.{◌≡◌, ◌≤◌, ◌++◌, false, Some, None, [], map, length, bytes_eq, unwrap_or, is_none, IfOk, IfErr, IfSome};
+ghost use Rattle.std.specs.Prelude.{◌≡◌, ◌≤◌, false, Some, None, [], map, length, bytes_eq, is_none, IfOk, IfErr, IfSome};
 ghost use Rattle.toml.specs.View.{table_view};
 ghost use Rattle.plan_reader.specs.Check.{first_wrong, is_wrong};
 ghost use Rattle.plan_reader.specs.FieldValue.{has_other_name};

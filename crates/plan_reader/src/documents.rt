@@ -1,6 +1,6 @@
 //! The tables of a TOML document.
 
-ghost use Rattle.std.specs.Prelude.{◌≡◌, [], not, option_map, string_bytes, bytes_eq, map, IfOk};
+ghost use Rattle.std.specs.Prelude.{◌≡◌, [], option_map, bytes_eq, map, IfOk};
 ghost use Rattle.std.specs.List.{list_any};
 ghost use Rattle.toml.specs.Data.{as_table};
 ghost use Rattle.toml.specs.View.{view, items_view, table_view};

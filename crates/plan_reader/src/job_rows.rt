@@ -1,11 +1,9 @@
 //! The rows of a list of jobs.
 
-ghost use Rattle.std.specs.Prelude.{◌≡◌, ◌<◌, ◌≤◌, ◌==◌, ◌&&◌, not, nat_lt, nat_le, false, true, Some, None, [], map, length, unwrap_or, is_none, IfOk, IfErr, IfSome};
+ghost use Rattle.std.specs.Prelude.{◌≡◌, ◌<◌, ◌≤◌, ◌&&◌, not, nat_lt, nat_le, Some, None, [], map, length, is_none, IfOk, IfErr, IfSome};
 ghost use Rattle.csv.specs.Records.{fields_of};
 ghost use Rattle.plan_reader.specs.Check.{first_wrong, is_wrong};
-ghost use Rattle.plan_reader.specs.Hexadecimal.{octets_of};
 ghost use Rattle.plan_reader.specs.JobRows.{cell, card_in, is_listed, job_number_of, card_number_of, kvn_in, tar_of, script_in, longest_script, takes_wide, has_job_number, job_said, row_checks, first_of_rows, NamesRow};
-ghost use Rattle.plan_reader.specs.PlanPlaces.{width_of};
 ghost use Rattle.plan_reader.specs.RowStop.{StopComes};
 ghost use Rattle.plan_reader.specs.RowsLeft.{IsReading, rows_left};
 

@@ -1,18 +1,18 @@
 //! A plan as a TOML document.
 
-ghost use Rattle.std.specs.Prelude.{◌≡◌, ◌≤◌, ◌<◌, nat_lt, Some, None, Ok, [], map, length, is_none, unwrap_or, option_map, IfOk, IfErr};
+ghost use Rattle.std.specs.Prelude.{◌≡◌, ◌≤◌, ◌<◌, Some, None, Ok, [], map, length, option_map, IfOk, IfErr};
 ghost use Rattle.toml.specs.View.{table_view};
 ghost use Rattle.plan_reader.specs.FieldValue.{has_other_name};
-ghost use Rattle.plan_reader.specs.PlanTable.{top_names, campaign_of, cards_of, keysets_of, card_list, keyset_list, top_checks, keyset_list_checks, card_said, keyset_said, first_in_plan, plan_of_lists, with_issued, later_of, plan_in, plan_of, Names, RefusesPlan};
+ghost use Rattle.plan_reader.specs.PlanTable.{top_names, campaign_of, cards_of, keysets_of, card_list, keyset_list, top_checks, keyset_list_checks, first_in_plan, plan_of_lists, with_issued, plan_in, plan_of, Names, RefusesPlan};
 ghost use Rattle.plan_reader.specs.Check.{first_wrong};
-ghost use Rattle.plan_reader.specs.TableList.{tables_said, tables_pointed};
+ghost use Rattle.plan_reader.specs.TableList.{tables_said};
 
 use crate::card_entries::read_cards;
 use crate::card_table::CardTable;
 use crate::documents::{document, tables_at};
 use crate::field_values::number_at;
 use crate::keyset_entries::read_keysets;
-use crate::keyset_table::{KeysetTable, Listing};
+use crate::keyset_table::KeysetTable;
 use crate::plans::{LaterList, Plan, PlanErr};
 use crate::tables::Field;
 use crate::{documents, tables};

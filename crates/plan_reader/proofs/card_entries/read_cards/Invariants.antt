@@ -1,4 +1,4 @@
-use Rattle.std.proofs.Common.{◌≡◌, ◌≤◌, ◌++◌, [], map, drop, length}
+use Rattle.std.proofs.Common.{◌≡◌, ◌++◌, [], map, drop, length}
 use Rattle.plan_reader.specs.PlanTable.{card_said, card_checks, first_of_entries}
 use Rattle.plan_reader.specs.TableList.{tables_pointed}
 use Rattle.plan_reader.specs.declared.tables.Table.TheVariants as which

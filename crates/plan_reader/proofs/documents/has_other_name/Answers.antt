@@ -1,4 +1,4 @@
-use Rattle.std.proofs.Common.{◌≡◌, ◌∙◌, sym, rules}
+use Rattle.std.proofs.Common.{sym}
 use Rattle.plan_reader.proofs.DocumentLemmas.{other_name-any}
 use Rattle.plan_reader.proofs.documents.has_other_name.Goals as goal
 

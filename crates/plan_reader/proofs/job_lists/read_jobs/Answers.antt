@@ -1,4 +1,4 @@
-use Rattle.std.proofs.Common.{◌≡◌, ◌∙◌, true, sym, ◌∷◌, rules, refl}
+use Rattle.std.proofs.Common.{◌≡◌, ◌∙◌, true, sym, rules, refl}
 use Rattle.csv.specs.Records.{fields_of}
 use Rattle.plan_reader.specs.JobRows.{is_header, jobs_of}
 use Rattle.plan_reader.specs.RowsLeft.{rows_left}

@@ -1,4 +1,4 @@
-use Rattle.std.proofs.Common.{◌≡◌, ◌∙◌, false, sym, ◌/◌, length}
+use Rattle.std.proofs.Common.{◌≡◌, ◌∙◌, false, sym}
 use Rattle.csv.specs.Records.{fields_of}
 use Rattle.plan_reader.proofs.JobRowLemmas.{script-length}
 use Rattle.plan_reader.proofs.job_rows.script.Goals as goal

@@ -1,4 +1,4 @@
-use Rattle.std.proofs.Common.{◌≡◌, ◌∙◌, sym, ◌∷◌, [], ◌++◌, take}
+use Rattle.std.proofs.Common.{take}
 use Rattle.std.proofs.lemmas.List.{take_more}
 use Rattle.plan_reader.proofs.PlanTableLemmas.{not-before, not-issued, all-more-issued, no-more-later, all-same-issued, more-later}
 use Rattle.plan_reader.proofs.plan_documents.make_plan.Goals as goal

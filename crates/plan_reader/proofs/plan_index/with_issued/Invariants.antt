@@ -1,5 +1,4 @@
 use Rattle.std.proofs.Common.{◌≡◌, ◌||◌, ◌&&◌, ◌==◌, take}
-use Rattle.std.specs.List.{list_any}
 use Rattle.std.specs.BTreeSet.{contains}
 use Rattle.ota_core.specs.Keyset.{Keyset}
 use Rattle.ota_core.specs.KeysetList.{has_kvn}

@@ -1,4 +1,4 @@
-use Rattle.std.proofs.Common.{◌≡◌, ◌∙◌, sym, ap, ◌++◌, ◌∷◌, [], map}
+use Rattle.std.proofs.Common.{◌≡◌, ◌∙◌, sym, ap, map}
 use Rattle.ota_core.specs.Keyset.{Keyset}
 use Rattle.plan_reader.specs.CardPlaces.{with_more}
 use Rattle.plan_reader.proofs.PlaceLemmas.{placed-more, found-within, kvn-new, more-found, more-missing}
