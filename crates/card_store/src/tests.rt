@@ -22,25 +22,14 @@ const SCRIPT: &[u8] = &[
     0x01, 0x01, 0x22,
 ];
 
-/// Puts keyset 2: counter mode higher, ciphered, and two keys of 16 octets. 41 octets.
-const PUT_KEY: &[u8] = &[
-    0x80, 0xD8, 0x00, 0x02, 0x24, 0x02, 0x01, 0x10, 0x10, 0x11, 0x12, 0x13, 0x14, 0x15, 0x16, 0x17,
-    0x18, 0x19, 0x1A, 0x1B, 0x1C, 0x1D, 0x1E, 0x1F, 0x10, 0x20, 0x21, 0x22, 0x23, 0x24, 0x25, 0x26,
-    0x27, 0x28, 0x29, 0x2A, 0x2B, 0x2C, 0x2D, 0x2E, 0x2F,
-];
-
 /// The store without parts. 11 octets.
 const EMPTY: [u8; 11] = [
     0xA5, 0x4F, 0x54, 0x41, 0x43, 0x01, 0x00, 0x00, 0x00, 0x00, 0x00,
 ];
 
-/// The store behind counter 1 of keyset 1 with the script, and its three commands. 79 octets.
-const RAN: &[u8] = &[
-    0xA5, 0x4F, 0x54, 0x41, 0x43, 0x01, 0x00, 0x00, 0x00, 0x00, 0xA5, 0x00, 0x00, 0x00, 0x21, 0x00,
-    0x00, 0x00, 0x1D, 0x01, 0x01, 0x00, 0x00, 0x00, 0x00, 0x01, 0xB0, 0x00, 0x10, 0x00, 0xA4, 0x00,
-    0x00, 0x02, 0x6F, 0xA1, 0x00, 0xD6, 0x00, 0x00, 0x01, 0x11, 0x00, 0xD6, 0x00, 0x01, 0x01, 0x22,
-    0xA5, 0x00, 0x00, 0x00, 0x05, 0x00, 0x00, 0x00, 0x01, 0x02, 0xA5, 0x00, 0x00, 0x00, 0x05, 0x00,
-    0x00, 0x00, 0x01, 0x02, 0xA5, 0x00, 0x00, 0x00, 0x05, 0x00, 0x00, 0x00, 0x01, 0x02, 0x00,
+/// The same with another end of its head.
+const LATER: &[u8] = &[
+    0xA5, 0x4F, 0x54, 0x41, 0x43, 0x01, 0x00, 0x00, 0x00, 0x07, 0x00,
 ];
 
 /// The facts of card 8901 with keyset 1: counter 0, process only if higher, ciphered, two keys of 16 octets.
@@ -284,22 +273,6 @@ fn empty_disk_gets_a_store(rt: HostRuntime) -> Result<(), Fail> {
 }
 
 #[test]
-fn script_leaves_its_counter_and_its_commands(rt: HostRuntime) -> Result<(), Fail> {
-    let mut store = opened(rt.alloc(), MemDisk::new(rt.alloc()))?;
-    let before = store.disk().calls().len();
-    let error = store_and_run(&mut store, 1, Counter(1), RFM, SCRIPT)?;
-    assert!(rt; error.is_none());
-    assert!(rt; store.disk().calls().len() == before + 16);
-    assert!(rt; store.disk().content() == RAN);
-    assert!(rt; has_parts(&store, 4));
-    assert!(rt; store.counter(1) == Some(Counter(1)));
-    let again = opened_from(rt.alloc(), RAN)?;
-    assert!(rt; has_parts(&again, 4));
-    assert!(rt; again.into_disk().content() == RAN);
-    Ok(())
-}
-
-#[test]
 fn cut_leaves_the_card_between_two_commands(rt: HostRuntime) -> Result<(), Fail> {
     for call in 1..=CALLS {
         for image in [Image::Old, Image::New, Image::Torn] {
@@ -362,59 +335,8 @@ fn damaged_batch_comes_behind_the_parts(rt: HostRuntime) -> Result<(), Fail> {
 fn other_octets_are_no_store(rt: HostRuntime) -> Result<(), Fail> {
     let refused = is_refused(rt.alloc(), b"otherwise used", StoreErr::NotALog)?;
     assert!(rt; refused);
-    let mut octets = log(rt.alloc(), &[])?;
-    octets[9] = 0x07;
-    let refused = is_refused(rt.alloc(), &octets, StoreErr::OtherHead([0, 0, 0, 7]))?;
+    let refused = is_refused(rt.alloc(), LATER, StoreErr::OtherHead([0, 0, 0, 7]))?;
     assert!(rt; refused);
-    Ok(())
-}
-
-#[test]
-fn lines_have_their_status(rt: HostRuntime) -> Result<(), Fail> {
-    let mut store = opened(rt.alloc(), MemDisk::new(rt.alloc()))?;
-    let long = vec![in rt.alloc(); 0xFF; 34168]?;
-    let cut_off: [u8; 9] = [0x00, 0xA4, 0x00, 0x00, 0x02, 0x6F, 0xA1, 0x00, 0xD6];
-    let cases: [(Tar, &[u8]); 5] = [
-        (OTHER, SCRIPT),
-        (RFM, &long),
-        (RAM, &[]),
-        (RFM, &cut_off),
-        (OTHER, &long),
-    ];
-    for (at, (tar, body)) in cases.into_iter().enumerate() {
-        let error = store_and_run(&mut store, 1, Counter(at as u64 + 1), tar, body)?;
-        assert!(rt; error.is_none());
-    }
-    let want = [
-        line(Counter(1), 0, true, 0x09),
-        line(Counter(2), 0, true, 0x07),
-        line(Counter(3), 0, true, 0x00),
-        line(Counter(4), 2, true, 0x00),
-        line(Counter(5), 0, true, 0x09),
-    ];
-    assert!(rt; store.lines() == want.as_slice());
-    let again = opened_from(rt.alloc(), store.disk().content())?;
-    assert!(rt; again.lines() == want.as_slice());
-    Ok(())
-}
-
-#[test]
-fn keyset_that_was_put_has_a_counter(rt: HostRuntime) -> Result<(), Fail> {
-    let mut store = opened(rt.alloc(), MemDisk::new(rt.alloc()))?;
-    let error = store_and_run(&mut store, 1, Counter(1), RAM, PUT_KEY)?;
-    assert!(rt; error.is_none());
-    assert!(rt; store.counter(2) == Some(Counter(0)));
-    assert!(rt;
-        store
-            .keyset(2)
-            .is_some_and(|keyset| keyset.base == Counter(0))
-    );
-    let error = store_and_run(&mut store, 2, Counter(5), RFM, SCRIPT)?;
-    assert!(rt; error.is_none());
-    let again = opened_from(rt.alloc(), store.disk().content())?;
-    assert!(rt; again.counter(2) == Some(Counter(5)));
-    assert!(rt; again.counter(1) == Some(Counter(1)));
-    assert!(rt; again.lines().len() == 2);
     Ok(())
 }
 
