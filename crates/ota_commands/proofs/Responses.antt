@@ -1,6 +1,13 @@
 -- A dry run's end, by the response to its script and what of it was written.
-use Rattle.std.proofs.Common.{◌≡◌, ◌⊎◌, inl, inr, ℕ, true, false, Option, Some, None, List, refl, sym, subst, ap, ◌∙◌}
-use Rattle.expanded_scripts.proofs.TemplateLaws.{apart, one-refusal}
+use Rattle.std.proofs.Common.{◌≡◌, ◌⊎◌, inl, inr, ℕ, zero, suc, ◌+◌, ◌-◌, ◌≤◌, true, false, Option, Some, None, List, refl, sym, subst, ap, ◌∙◌, arith}
+use Rattle.std.proofs.lemmas.Bool.{cases_lt}
+use Rattle.apdu_codec.specs.Compact.{compact_response_of}
+use Rattle.apdu_codec.specs.Reply.{Answer}
+use Rattle.script_engine.specs.declared.card.CardState.{CardState}
+use Rattle.script_engine.specs.declared.part.Part.{Part}
+use Rattle.script_engine.specs.Run.{Progress, advanced, fresh_card, runs, with_mf_selected, HasRun}
+use Rattle.expanded_scripts.proofs.TemplateLaws.{apart, one-refusal, one-script}
+use Rattle.expanded_scripts.specs.Answers.{answers, response_of}
 use Rattle.expanded_scripts.specs.Refused.{IsRefused}
 use Rattle.expanded_scripts.specs.declared.reading.TemplateErr.{TemplateErr}
 use Rattle.expanded_scripts.specs.declared.reading.TemplateErr.TheVariants as template_err
@@ -28,6 +35,48 @@ pub ends-by : (trial : Trial) (response : List ℕ) (before now : ℕ) (written 
 ends-by trial response before now Whole r w = (response, answered trial response r)
 ends-by trial response before now Part r w = ((response, answered trial response r), w)
 ends-by trial response before now Nothing r w = tt
+
+-- ---- one response
+
+-- a script that has ended stays so
+stays : (card : CardState) (part : Part) (script : List ℕ) (count more : ℕ) (last : Answer CardState) → HasRun card part script count last → runs card part script (count + more) ≡ record { count = count; next = None; last = last }
+stays card part script count zero last run =
+    let same : count ≡ count + 0 = omega arith in
+    let P : ℕ → Type 0 = λ k. runs card part script k ≡ record { count = count; next = None; last = last } in
+    subst P same run
+stays card part script count (suc more) last run =
+    let same : suc (count + more) ≡ count + suc more = omega arith in
+    let P : ℕ → Type 0 = λ k. runs card part script k ≡ record { count = count; next = None; last = last } in
+    let Q : Progress → Type 0 = λ p. advanced part script p ≡ record { count = count; next = None; last = last } in
+    subst P same (subst Q (sym (stays card part script count more last run)) refl)
+
+run-once : (card : CardState) (part : Part) (script : List ℕ) (count other : ℕ) (last final : Answer CardState) → count ≤ other → HasRun card part script count last → HasRun card part script other final
+    → compact_response_of count last.sw last.out ≡ compact_response_of other final.sw final.out
+run-once card part script count other last final few run again =
+    let same : count + (other - count) ≡ other = omega arith in
+    let P : ℕ → Type 0 = λ k. runs card part script k ≡ record { count = count; next = None; last = last } in
+    let here = subst P same (stays card part script count (other - count) last run) in
+    ap (λ (p : Progress). compact_response_of p.count p.last.sw p.last.out) (sym here ∙ again)
+
+runs-once : (card : CardState) (part : Part) (script : List ℕ) (count other : ℕ) (last final : Answer CardState) → HasRun card part script count last → HasRun card part script other final
+    → compact_response_of count last.sw last.out ≡ compact_response_of other final.sw final.out
+runs-once card part script count other last final run again =
+    elim (cases_lt count other) [
+      | inl less ↦ run-once card part script count other last final (omega (arith, less)) run again
+      | inr more ↦ sym (run-once card part script other count final last more again run)
+    ]
+
+pub one-response : (trial : Trial) (response other : List ℕ) → Responds trial response → Responds trial other → response ≡ other
+one-response trial response other (compact count last is run e) (compact number final also again f) = e ∙ (runs-once fresh_card trial.part trial.script count number last final run again ∙ sym f)
+one-response trial response other (compact count last is run e) (expanded commands also template f) =
+    let both : ◌≡◌ false true = sym is ∙ also in
+    cc
+one-response trial response other (expanded commands is template e) (compact count last also run f) =
+    let both : ◌≡◌ false true = sym also ∙ is in
+    cc
+one-response trial response other (expanded commands is template e) (expanded others also again f) =
+    let same = one-script trial.script commands others template again in
+    e ∙ (ap (λ (plains : List (List ℕ)). response_of (answers (with_mf_selected fresh_card) trial.part plains)) same ∙ sym f)
 
 -- ---- each cause has its end
 

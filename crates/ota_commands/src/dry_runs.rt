@@ -134,3 +134,6 @@ fn response_text(alloc: Global, response: &[u8]) -> Result<String, Memory>
     text.push('\n')?;
     Ok(text)
 }
+
+#[cfg(test)]
+mod tests;

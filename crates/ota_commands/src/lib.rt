@@ -17,7 +17,7 @@ mod writing;
 
 pub use dry_runs::{Drilled, dry_run};
 pub use faults::{Fault, Which};
-pub use laws::blank_sites_are_sound;
+pub use laws::{blank_sites_are_sound, one_response};
 pub use plain::{Ended, plain_command};
 pub use words::{Command, Words, read_words};
 
