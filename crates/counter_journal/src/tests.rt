@@ -870,7 +870,6 @@ fn looked_after<D: DiskCalls>(alloc: Global, disk: &mut D, entry: Entry) -> Resu
         return Err(LogErr::Damaged(0));
     }
     let entries = vec![in alloc; entry]?;
-    journal.make_room_for(&entries)?;
     journal.add(disk, entries)?;
     let job = JobId {
         campaign: 7,

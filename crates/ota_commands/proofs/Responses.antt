@@ -4,7 +4,7 @@ use Rattle.std.proofs.lemmas.Bool.{cases_lt}
 use Rattle.apdu_codec.specs.Compact.{compact_response_of}
 use Rattle.apdu_codec.specs.Reply.{Answer}
 use Rattle.script_engine.specs.declared.card.CardState.{CardState}
-use Rattle.script_engine.specs.declared.part.Part.{Part}
+use Rattle.script_engine.specs.declared.part.Part.{Part as CardPart}
 use Rattle.script_engine.specs.Run.{Progress, advanced, fresh_card, runs, with_mf_selected, HasRun}
 use Rattle.expanded_scripts.proofs.TemplateLaws.{apart, one-refusal, one-script}
 use Rattle.expanded_scripts.specs.Answers.{answers, response_of}
@@ -39,7 +39,7 @@ ends-by trial response before now Nothing r w = tt
 -- ---- one response
 
 -- a script that has ended stays so
-stays : (card : CardState) (part : Part) (script : List ℕ) (count more : ℕ) (last : Answer CardState) → HasRun card part script count last → runs card part script (count + more) ≡ record { count = count; next = None; last = last }
+stays : (card : CardState) (part : CardPart) (script : List ℕ) (count more : ℕ) (last : Answer CardState) → HasRun card part script count last → runs card part script (count + more) ≡ record { count = count; next = None; last = last }
 stays card part script count zero last run =
     let same : count ≡ count + 0 = omega arith in
     let P : ℕ → Type 0 = λ k. runs card part script k ≡ record { count = count; next = None; last = last } in
@@ -50,7 +50,7 @@ stays card part script count (suc more) last run =
     let Q : Progress → Type 0 = λ p. advanced part script p ≡ record { count = count; next = None; last = last } in
     subst P same (subst Q (sym (stays card part script count more last run)) refl)
 
-run-once : (card : CardState) (part : Part) (script : List ℕ) (count other : ℕ) (last final : Answer CardState) → count ≤ other → HasRun card part script count last → HasRun card part script other final
+run-once : (card : CardState) (part : CardPart) (script : List ℕ) (count other : ℕ) (last final : Answer CardState) → count ≤ other → HasRun card part script count last → HasRun card part script other final
     → compact_response_of count last.sw last.out ≡ compact_response_of other final.sw final.out
 run-once card part script count other last final few run again =
     let same : count + (other - count) ≡ other = omega arith in
@@ -58,7 +58,7 @@ run-once card part script count other last final few run again =
     let here = subst P same (stays card part script count (other - count) last run) in
     ap (λ (p : Progress). compact_response_of p.count p.last.sw p.last.out) (sym here ∙ again)
 
-runs-once : (card : CardState) (part : Part) (script : List ℕ) (count other : ℕ) (last final : Answer CardState) → HasRun card part script count last → HasRun card part script other final
+runs-once : (card : CardState) (part : CardPart) (script : List ℕ) (count other : ℕ) (last final : Answer CardState) → HasRun card part script count last → HasRun card part script other final
     → compact_response_of count last.sw last.out ≡ compact_response_of other final.sw final.out
 runs-once card part script count other last final run again =
     elim (cases_lt count other) [

@@ -107,8 +107,9 @@ fn each_field_of_a_plan_is_read(rt: HostRuntime) -> Result<(), Fail> {
     assert!(rt; keysets[1].1.ciphered);
     let later = plan.later.as_slice();
     assert_eq!(rt; later.len(), 1);
-    assert_eq!(rt; later[0].0.card, CardId(8902));
-    assert_eq!(rt; later[0].0.kvn, 1);
+    let id = later[0].0;
+    assert_eq!(rt; id.card, CardId(8902));
+    assert_eq!(rt; id.kvn, 1);
     assert_eq!(rt; later[0].1.kic.as_slice().len(), 32);
     assert!(rt; later[0].1.kid.as_slice() == KID.as_slice());
     Ok(())
