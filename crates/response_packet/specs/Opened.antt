@@ -1,5 +1,5 @@
 -- What a response packet says, or the first refusal that applies. ETSI TS 102 225, 5.2.
-use Rattle.std.specs.Prelude.{◌≡◌, ℕ, ◌+◌, ◌-◌, ◌%◌, ◌≤◌, ◌==◌, ◌&&◌, ◌||◌, nat_le, Bool, not, if◌then◌else◌, Result, Ok, Err, List, ◌++◌, length, take, drop, slice_index}
+use Rattle.std.specs.Prelude.{◌≡◌, ℕ, ◌+◌, ◌-◌, ◌%◌, ◌≤◌, ◌==◌, ◌&&◌, ◌||◌, nat_le, Bool, not, if◌then◌else◌, Option, Some, None, Result, Ok, Err, List, ◌++◌, length, take, drop, slice_index}
 use Rattle.std.specs.Str.{bytes_eq}
 use Rattle.aes_modes.specs.KeyPair.{KeyPair}
 use Rattle.response_packet.specs.declared.answers.Answer.{Answer}
@@ -25,6 +25,10 @@ front_in ciphered packet =
     if not (has_length packet) then NoForm
     else (if slice_index packet 2 == 0x0A then Plain (slice_index packet 12)
     else (if (slice_index packet 2 == 0x12) && has_blocks ciphered packet then Secured else NoForm))
+
+-- the status of a packet in the unsecured form: RHL is 0A
+abbrev pub unsecured_in : List ℕ → Option ℕ
+unsecured_in packet = if has_length packet && (slice_index packet 2 == 0x0A) then Some (slice_index packet 12) else None
 
 -- the packet as it was before ciphering: TAR ends at 6, CNTR at 11, PCNTR at 12, the status at 13 and CC at 21, where
 -- the text begins

@@ -11,7 +11,7 @@ mod opening;
 
 pub use answers::{Answer, AnswerErr, AnswerIn};
 pub use building::{build, build_in, build_plain};
-pub use opening::{is_settling, open, open_in};
+pub use opening::{is_settling, open, open_in, unsecured_status};
 
 #[cfg(test)]
 mod tests;

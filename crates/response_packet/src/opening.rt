@@ -2,7 +2,7 @@
 
 ghost use Rattle.std.specs.Prelude.{◌≡◌, ◌-◌, ◌%◌, ◌^◌, ◌+◌, ◌<◌, ◌≤◌, drop, length, take, true, None, IfOk, IfSome, IsOk};
 ghost use Rattle.secured_packet.specs.Secured.{deciphered};
-ghost use Rattle.response_packet.specs.Opened.{Answers, AnswersBehind, AnswersIn, IsRefused, checked_of, has_padding, is_authentic, opened_checked, opened_plain, opens, plain_of};
+ghost use Rattle.response_packet.specs.Opened.{Answers, AnswersBehind, AnswersIn, IsRefused, checked_of, has_padding, is_authentic, opened_checked, opened_plain, opens, plain_of, unsecured_in};
 ghost use Rattle.response_packet.specs.Response.{settles};
 
 use crate::answers::{Answer, AnswerErr, AnswerIn};
@@ -21,6 +21,17 @@ pub fn is_settling(status: u8) -> bool
     ensures { result ≡ settles status }
 {
     status == 0x00 || status == 0x07 || status == 0x09
+}
+
+/// The status code of a packet in the unsecured form, which has no cryptographic checksum: RHL is 0A. None where it isn't
+/// in that form (ETSI TS 102 225, 5.2).
+pub fn unsecured_status(packet: &[u8]) -> Option<u8>
+    ensures { result ≡ unsecured_in packet.now }
+{
+    match front_of(false, packet) {
+        Front::Plain(status) => Some(status),
+        _ => None,
+    }
 }
 
 /// Opens a response packet under these keys. `ciphered` says whether a secured one is ciphered, as the SPI of its
