@@ -4,6 +4,8 @@ use Rattle.std.specs.Map.{lookup}
 use Rattle.std.specs.Option.{option_map}
 use Rattle.arrayvec.specs.ArrayVec.{ArrayVec}
 use Rattle.sms_segments.specs.declared.concatenations.Concatenation.{Concatenation}
+use Rattle.sms_segments.specs.declared.assembling.Push.{Push}
+use Rattle.sms_segments.specs.declared.assembling.Push.TheVariants.{Whole}
 use Rattle.sms_segments.specs.declared.kept_pieces.Place.{Place}
 use Rattle.sms_segments.specs.Assembled.{OfCard, Pieces, is_same, no_pieces, pieces_after, unless_whole, with_piece}
 
@@ -63,3 +65,8 @@ AllFit pieces = (of : Concatenation) (place : ℕ) → IfSome (kept_in pieces of
 -- for how many pushes there surely is room: one, where there is room for one more piece and for the longest packet, of 255 pieces
 abbrev pub room_for : ℕ → ℕ → ℕ
 room_for pieces octets = if nat_le 1 pieces && nat_le 34168 octets then 1 else 0
+
+-- this holds of the packet, where one is whole
+abbrev pub IfWhole : Push → (List ℕ → Type 0) → Type 0
+IfWhole (Whole packet) P = P packet
+IfWhole push P = Unit {0}

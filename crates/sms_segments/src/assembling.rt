@@ -52,7 +52,7 @@ impl Model for Assembler {
 impl Assembler {
     ghost use Rattle.sms_segments.specs.declared.concatenations.Concatenation.{Concatenation};
     ghost use Rattle.sms_segments.specs.Assembled.{OfCard, answer_to, if_whole, with_piece};
-    ghost use Rattle.sms_segments.specs.Kept.{FitsAt, Keeps, kept_after, kept_in};
+    ghost use Rattle.sms_segments.specs.Kept.{FitsAt, IfWhole, Keeps, kept_after, kept_in};
 
     /// An assembler of packets for this element (3GPP TS 31.115, 4.2 and 4.4), with nothing kept yet.
     pub fn new(alloc: Global, element: u8) -> Assembler
@@ -83,6 +83,7 @@ impl Assembler {
     pub fn push(&mut self, card: CardId, message: &[u8]) -> Result<Push, Memory>
         ensures answer { (past : List OfCard) → Keeps self.old.element past self.old.pieces → IfOk result (λ push. push ≡ answer_to self.old.element past (record { card = card; octets = message.now })) }
         ensures keeps { (past : List OfCard) → Keeps self.old.element past self.old.pieces → OnOk result (Keeps self.old.element (record { card = card; octets = message.now } ∷ past) self.new.pieces) }
+        ensures short { IfOk result (λ push. IfWhole push (λ packet. length packet ≤ 34168)) }
         ensures outside { header_of self.old.element message.now ≡ None → result ≡ Ok Push.NotOurs }
         ensures not_ours { result ≡ Ok Push.NotOurs → header_of self.old.element message.now ≡ None }
         ensures unchanged { result ≡ Ok Push.NotOurs → self.new ≡ self.old }
@@ -116,6 +117,7 @@ impl Assembler {
     fn take(&mut self, arrival: &Place, octets: &[u8]) -> Result<Push, Memory>
         requires { FitsAt arrival.now.of arrival.now.place octets.now }
         ensures answer { IfOk result (λ push. push ≡ if_whole arrival.now.of.total (with_piece arrival.now.place octets.now (kept_in self.old.pieces arrival.now.of))) }
+        ensures short { IfOk result (λ push. IfWhole push (λ packet. length packet ≤ 34168)) }
         ensures keeps { OnOk result ((of : Concatenation) → kept_in self.new.pieces of ≡ kept_after arrival.now.of arrival.now.place octets.now self.old.pieces of) }
         ensures element { self.new.element ≡ self.old.element }
         ensures err { OnErr result (self.new.pieces ≡ self.old.pieces) }

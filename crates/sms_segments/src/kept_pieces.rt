@@ -150,6 +150,7 @@ impl KeptPieces {
         requires fits { FitsAt arrival.now.of arrival.now.place octets.now }
         requires empty { packet.old.items ≡ [] }
         ensures ok { OnOk result (packet.new.items ≡ joined arrival.now.of.total (with_piece arrival.now.place octets.now (kept_in self.now.pieces arrival.now.of))) }
+        ensures short { OnOk result (length packet.new.items ≤ 34168) }
         ensures room { 34168 ≤ vec_capacity packet.old → IsOk result }
     {
         packet.reserve(self.joined_len(arrival, octets))?;
