@@ -1,5 +1,5 @@
 -- A batch entered entry by entry.
-use Rattle.std.proofs.Common.{◌≡◌, ℕ, ◌+◌, ◌<◌, ◌≤◌, suc, true, List, [], ◌∷◌, ◌++◌, None, length, get_or, take, drop, reverse, refl, sym, ap, ◌∙◌, append_assoc, add-one, take-suc, drop-cons}
+use Rattle.std.proofs.Common.{◌≡◌, Result, Ok, Err, OnErr, ℕ, min, ◌+◌, ◌<◌, ◌≤◌, suc, true, List, [], ◌∷◌, ◌++◌, None, length, get_or, take, drop, reverse, refl, sym, ap, ◌∙◌, append_assoc, add-one, take-suc, drop-cons}
 use Rattle.std.specs.List.{list_all}
 use Rattle.std.proofs.lemmas.List.{reverse-append, take_all, append-nil}
 use Rattle.std.proofs.lemmas.List.Folds.{list_all_at, list_all_more}
@@ -15,6 +15,11 @@ use Rattle.keyset_book.specs.declared.books.Book.{Book}
 use Rattle.keyset_book.proofs.PastLemmas.{by_cases, apart}
 use Rattle.keyset_book.proofs.EnteringLemmas.{both_true, enters-says}
 
+-- what holds anyway holds at each answer
+pub on-err : {A E P : Type 0} (answer : Result A E) → P → OnErr answer P
+on-err (Ok value) holds = tt
+on-err (Err error) holds = holds
+
 -- a book that says the same stands for the same histories
 pub stands-same : (old new : Book) → SaysSame old new → (history : List Entry) → StandsFor old history → StandsFor new history
 stands-same old new same history stands = record {
@@ -24,6 +29,10 @@ stands-same old new same history stands = record {
     jobs = λ job. same.jobs job ∙ stands.says.jobs job;
     counters = λ counter. same.counters counter ∙ stands.says.counters counter;
     moment = same.moment ∙ stands.says.moment;
+    positions = λ short. record {
+      count = same.count ∙ (stands.says.positions short).count;
+      positions = λ counter place found. same.positions counter ∙ (stands.says.positions short).positions counter place found;
+    };
   };
 }
 
@@ -32,7 +41,9 @@ same-then first second third one two = record {
   keysets = λ keyset. two.keysets keyset ∙ one.keysets keyset;
   jobs = λ job. two.jobs job ∙ one.jobs job;
   counters = λ counter. two.counters counter ∙ one.counters counter;
+  positions = λ counter. two.positions counter ∙ one.positions counter;
   moment = two.moment ∙ one.moment;
+  count = two.count ∙ one.count;
 }
 
 pub kept-then : (first second third : Book) → KeepsPlaces first second → KeepsPlaces second third → KeepsPlaces first third
@@ -74,10 +85,10 @@ room-none book (entry ∷ entries) none =
 
 -- the book with a legal entry stands for the history with it
 pub stands-entered : (history : List Entry) (entry : Entry) (old new : Book) → StandsFor old history → broken (reverse history) entry ≡ None
-    → has_room_for old entry ≡ true → Enters old entry new → new.moment ≡ moment_of entry → StandsFor new (history ++ entry ∷ [])
-stands-entered history entry old new stands may room enters late = record {
+    → has_room_for old entry ≡ true → Enters old entry new → new.moment ≡ moment_of entry → new.entries ≡ min (old.entries + 1) 0xFFFF_FFFF_FFFF_FFFF → StandsFor new (history ++ entry ∷ [])
+stands-entered history entry old new stands may room enters late count = record {
   legal = rw (reverse-append history (entry ∷ [])) (stands.legal, may);
-  says = rw (reverse-append history (entry ∷ [])) (enters-says (reverse history) entry old new stands.legal stands.says may room enters late);
+  says = rw (reverse-append history (entry ∷ [])) (enters-says (reverse history) entry old new stands.legal stands.says may room enters late count);
 }
 
 -- so many entries of a batch are entered behind a history, and the others are legal behind them
@@ -92,8 +103,9 @@ put-none history entries book stands whole = record {
 }
 
 pub put-more : (history entries : List Entry) (n : ℕ) (entry : Entry) (old new : Book) → n < length entries → entry ≡ get_or entries n entry
-    → IsPut history entries n old → has_room_for old entry ≡ true → Enters old entry new → new.moment ≡ moment_of entry → IsPut history entries (n + 1) new
-put-more history entries n entry old new within is put room enters late =
+    → IsPut history entries n old → has_room_for old entry ≡ true → Enters old entry new → new.moment ≡ moment_of entry
+    → new.entries ≡ min (old.entries + 1) 0xFFFF_FFFF_FFFF_FFFF → IsPut history entries (n + 1) new
+put-more history entries n entry old new within is put room enters late count =
     let rest : broken_batch (reverse (history ++ take n entries)) (entry ∷ drop (suc n) entries) ≡ None =
     ap (broken_batch (reverse (history ++ take n entries))) (ap (λ e. e ∷ drop (suc n) entries) is ∙ sym (drop-cons entries n entry within)) ∙ put.rest in
     let parts : (broken (reverse (history ++ take n entries)) entry ≡ None) × (broken_batch (entry ∷ reverse (history ++ take n entries)) (drop (suc n) entries) ≡ None) =
@@ -102,7 +114,7 @@ put-more history entries n entry old new within is put room enters late =
     ap (λ k. history ++ take k entries) (add-one n) ∙ ap (λ es. history ++ es) (take-suc entries n entry within ∙ ap (λ e. take n entries ++ e ∷ []) (sym is))
     ∙ sym (append_assoc history (take n entries) (entry ∷ [])) in
     record {
-      stands = rw longer (stands-entered (history ++ take n entries) entry old new put.stands parts.0 room enters late);
+      stands = rw longer (stands-entered (history ++ take n entries) entry old new put.stands parts.0 room enters late count);
       rest = rw (longer, reverse-append (history ++ take n entries) (entry ∷ []), add-one n) (parts.1);
     }
 

@@ -1,5 +1,5 @@
 -- A book in which a legal entry is entered says what the past with the entry says.
-use Rattle.std.proofs.Common.{◌≡◌, ℕ, Bool, true, false, not, ◌&&◌, ◌||◌, if◌then◌else◌, List, ◌∷◌, Option, None, Some, unwrap_or, is_some, find, refl, sym, ap, ◌∙◌}
+use Rattle.std.proofs.Common.{◌≡◌, ℕ, ◌+◌, min, Bool, true, false, not, ◌&&◌, ◌||◌, if◌then◌else◌, List, ◌∷◌, Option, None, Some, unwrap_or, is_some, find, refl, sym, ap, ◌∙◌}
 use Rattle.std.specs.Option.{option_or, option_flatten}
 use Rattle.std.specs.BTreeMap.{get}
 use Rattle.std.specs.List.{list_any}
@@ -13,13 +13,15 @@ use Rattle.ota_core.specs.declared.keysets.KeysetFacts.{KeysetFacts}
 use Rattle.ota_core.specs.declared.entries.Entry.{Entry}
 use Rattle.ota_core.specs.declared.entries.Entry.TheVariants.{Open, Reserve, Done, Refused, Close}
 use Rattle.ota_core.specs.declared.entries.Illegal.{Illegal}
-use Rattle.keyset_book.specs.Tables.{known_in, has_keyset_place, has_job_place, is_same_counter, has_counter_place, in_row, row_cmp, row_of, column_of}
+use Rattle.keyset_book.specs.Tables.{known_in, has_keyset_place, has_job_place, is_same_counter, has_counter_place, standing_at, row_cmp, row_of, column_of}
 use Rattle.keyset_book.specs.Book.{known_from, standing_of, IsBookOf, has_room_for}
 use Rattle.keyset_book.specs.Entering.{Opens, Reserves, Settles, Closes, Enters}
+use Rattle.keyset_book.specs.declared.counter_table.Row.{Row}
 use Rattle.keyset_book.specs.declared.counter_table.Standing.{Standing}
 use Rattle.keyset_book.specs.declared.counter_table.Standing.TheVariants as standing
 use Rattle.keyset_book.specs.declared.books.Book.{Book}
 use Rattle.keyset_book.proofs.PastLemmas.{by_cases, opens_first, opened-facts, unopened_unclosed, next_unreserved, unreserved_unsettled, unfound, same_place, settles_reserved, done_settles, refused_settles}
+use Rattle.keyset_book.proofs.PositionLemmas.{knows-more, knows-reserved}
 
 -- both tests hold
 pub both_true : (first second : Bool) → (first && second) ≡ true → (first ≡ true) × (second ≡ true)
@@ -31,7 +33,7 @@ pub placed : {V : Type 0} (place : Option (Option V)) (value : V) → option_fla
 placed None value is = cc
 placed (Some place) value is = refl
 
-placed-row : (row : Option (List (Option Standing))) (column : ℕ) (value : Standing) → in_row row column ≡ Some value → is_some row ≡ true
+placed-row : (row : Option Row) (column : ℕ) (value : Standing) → standing_at row column ≡ Some value → is_some row ≡ true
 placed-row None column value is = cc
 placed-row (Some row) column value is = refl
 
@@ -76,8 +78,8 @@ module _ (past : List Entry) (old new : Book) (legal : IsLegalPast past) (says :
       by_facts (Some facts) some = (facts, refl)
 
   pub enters_open : (by moment : ℕ) (keyset : Keyset) (facts : KeysetFacts) → broken past (Open by moment keyset facts) ≡ None
-      → has_keyset_place old.keysets keyset ≡ true → Opens old keyset facts new → new.moment ≡ moment → IsBookOf (Open by moment keyset facts ∷ past) new
-  enters_open by moment keyset facts may room opens late = record {
+      → has_keyset_place old.keysets keyset ≡ true → Opens old keyset facts new → new.moment ≡ moment → new.entries ≡ min (old.entries + 1) 0xFFFF_FFFF_FFFF_FFFF → IsBookOf (Open by moment keyset facts ∷ past) new
+  enters_open by moment keyset facts may room opens late count = record {
     keysets = λ other. opens.keysets room other
         ∙ ap (λ known. if is_same_keyset keyset other then Some (record { facts = facts; last = facts.base; closed = false }) else known) (says.keysets other)
         ∙ known-open facts (is_same_keyset keyset other) (first_some (facts_in other) past) (first_some (counter_in other) past) (list_any (is_close_of other) past)
@@ -85,14 +87,15 @@ module _ (past : List Entry) (old new : Book) (legal : IsLegalPast past) (says :
     jobs = λ job. rw (opens.jobs) (says.jobs job);
     counters = λ counter. rw (opens.counters) (says.counters counter);
     moment = late;
+    positions = knows-more past old new says.positions count (Open by moment keyset facts) (λ counter. refl) (λ counter. rw (opens.counters) refl);
   }
 
   pub enters_reservation : (by moment : ℕ) (keyset : Keyset) (counter : ℕ) (job : JobId) (tar name body : List ℕ)
       → broken past (Reserve by moment keyset counter job tar name body) ≡ None
       → has_job_place old.jobs job ≡ true → has_counter_place old.counters (record { keyset = keyset; counter = counter }) ≡ true
-      → Reserves old (record { keyset = keyset; counter = counter }) job new → new.moment ≡ moment
+      → Reserves old (record { keyset = keyset; counter = counter }) job new → new.moment ≡ moment → new.entries ≡ min (old.entries + 1) 0xFFFF_FFFF_FFFF_FFFF
       → IsBookOf (Reserve by moment keyset counter job tar name body ∷ past) new
-  enters_reservation by moment keyset counter job tar name body may job_room counter_room reserves late =
+  enters_reservation by moment keyset counter job tar name body may job_room counter_room reserves late count =
       let opened = in_use-opened keyset past (is_in_use past (Reserve by moment keyset counter job tar name body) may refl) in
       let facts = opened_with keyset opened in
       let known : known_in old.keysets keyset ≡ known_from (Some facts.0) (first_some (counter_in keyset) past) (list_any (is_close_of keyset) past) =
@@ -111,6 +114,8 @@ module _ (past : List Entry) (old new : Book) (legal : IsLegalPast past) (says :
             (λ same. rw (same, unfound (is_settlement_of other) past (rw (same_place keyset counter other same) at free)) refl)
             (λ apart. rw apart (says.counters other));
         moment = late;
+        positions = knows-reserved past old new says.positions count by moment keyset counter job tar name body
+            (next_unreserved (record { keyset = keyset; counter = counter }) past legal next) (reserves.positions counter_room);
       }
 
   -- a reserved counter has a place
@@ -119,8 +124,8 @@ module _ (past : List Entry) (old new : Book) (legal : IsLegalPast past) (says :
       placed-row (get row_cmp old.counters.rows (row_of counter)) (column_of counter) (standing_of (find (is_settlement_of counter) past)) (says.counters counter ∙ rw reserved refl)
 
   pub enters_done : (by moment : ℕ) (keyset : Keyset) (counter : ℕ) (answer : List ℕ) → broken past (Done by moment keyset counter answer) ≡ None
-      → Settles old (record { keyset = keyset; counter = counter }) standing.Done new → new.moment ≡ moment → IsBookOf (Done by moment keyset counter answer ∷ past) new
-  enters_done by moment keyset counter answer may settles late =
+      → Settles old (record { keyset = keyset; counter = counter }) standing.Done new → new.moment ≡ moment → new.entries ≡ min (old.entries + 1) 0xFFFF_FFFF_FFFF_FFFF → IsBookOf (Done by moment keyset counter answer ∷ past) new
+  enters_done by moment keyset counter answer may settles late count =
       let rule = done_settles by moment keyset counter answer past (legal, may) in
       let reserved = unless-holds (list_any (is_reserve_of (record { keyset = keyset; counter = counter })) past) Illegal.NotReserved
       (both_hold (unless (list_any (is_reserve_of (record { keyset = keyset; counter = counter })) past) Illegal.NotReserved)
@@ -133,11 +138,12 @@ module _ (past : List Entry) (old new : Book) (legal : IsLegalPast past) (says :
             (λ same. rw (same, settles_reserved keyset counter other past rule same) refl)
             (λ apart. rw apart (says.counters other));
         moment = late;
+        positions = knows-more past old new says.positions count (Done by moment keyset counter answer) (λ other. refl) settles.positions;
       }
 
   pub enters_refused : (by moment : ℕ) (keyset : Keyset) (counter status : ℕ) → broken past (Refused by moment keyset counter status) ≡ None
-      → Settles old (record { keyset = keyset; counter = counter }) (standing.Refused status) new → new.moment ≡ moment → IsBookOf (Refused by moment keyset counter status ∷ past) new
-  enters_refused by moment keyset counter status may settles late =
+      → Settles old (record { keyset = keyset; counter = counter }) (standing.Refused status) new → new.moment ≡ moment → new.entries ≡ min (old.entries + 1) 0xFFFF_FFFF_FFFF_FFFF → IsBookOf (Refused by moment keyset counter status ∷ past) new
+  enters_refused by moment keyset counter status may settles late count =
       let rule = refused_settles by moment keyset counter status past (legal, may) in
       let reserved = unless-holds (list_any (is_reserve_of (record { keyset = keyset; counter = counter })) past) Illegal.NotReserved
       (both_hold (unless (list_any (is_reserve_of (record { keyset = keyset; counter = counter })) past) Illegal.NotReserved)
@@ -150,11 +156,12 @@ module _ (past : List Entry) (old new : Book) (legal : IsLegalPast past) (says :
             (λ same. rw (same, settles_reserved keyset counter other past rule same) refl)
             (λ apart. rw apart (says.counters other));
         moment = late;
+        positions = knows-more past old new says.positions count (Refused by moment keyset counter status) (λ other. refl) settles.positions;
       }
 
   pub enters_close : (by moment : ℕ) (keyset : Keyset) → broken past (Close by moment keyset) ≡ None
-      → Closes old keyset new → new.moment ≡ moment → IsBookOf (Close by moment keyset ∷ past) new
-  enters_close by moment keyset may closes late =
+      → Closes old keyset new → new.moment ≡ moment → new.entries ≡ min (old.entries + 1) 0xFFFF_FFFF_FFFF_FFFF → IsBookOf (Close by moment keyset ∷ past) new
+  enters_close by moment keyset may closes late count =
       let opened = in_use-opened keyset past (is_in_use past (Close by moment keyset) may refl) in
       let facts = opened_with keyset opened in
       let known : known_in old.keysets keyset ≡ known_from (Some facts.0) (first_some (counter_in keyset) past) (list_any (is_close_of keyset) past) =
@@ -167,19 +174,20 @@ module _ (past : List Entry) (old new : Book) (legal : IsLegalPast past) (says :
         jobs = λ other. rw (closes.jobs) (says.jobs other);
         counters = λ other. rw (closes.counters) (says.counters other);
         moment = late;
+        positions = knows-more past old new says.positions count (Close by moment keyset) (λ counter. refl) (λ counter. rw (closes.counters) refl);
       }
 
 -- the book with a legal entry, for which there was room
 pub enters-says : (past : List Entry) (entry : Entry) (old new : Book) → IsLegalPast past → IsBookOf past old → broken past entry ≡ None
-    → has_room_for old entry ≡ true → Enters old entry new → new.moment ≡ moment_of entry → IsBookOf (entry ∷ past) new
-enters-says past (Open by moment keyset facts) old new legal says may room enters late =
-    enters_open past old new legal says by moment keyset facts may room enters late
-enters-says past (Reserve by moment keyset counter job tar name body) old new legal says may room enters late =
+    → has_room_for old entry ≡ true → Enters old entry new → new.moment ≡ moment_of entry → new.entries ≡ min (old.entries + 1) 0xFFFF_FFFF_FFFF_FFFF → IsBookOf (entry ∷ past) new
+enters-says past (Open by moment keyset facts) old new legal says may room enters late count =
+    enters_open past old new legal says by moment keyset facts may room enters late count
+enters-says past (Reserve by moment keyset counter job tar name body) old new legal says may room enters late count =
     let rooms = both_true (has_job_place old.jobs job) (has_counter_place old.counters (record { keyset = keyset; counter = counter })) room in
-    enters_reservation past old new legal says by moment keyset counter job tar name body may rooms.0 rooms.1 enters late
-enters-says past (Done by moment keyset counter answer) old new legal says may room enters late =
-    enters_done past old new legal says by moment keyset counter answer may enters late
-enters-says past (Refused by moment keyset counter status) old new legal says may room enters late =
-    enters_refused past old new legal says by moment keyset counter status may enters late
-enters-says past (Close by moment keyset) old new legal says may room enters late =
-    enters_close past old new legal says by moment keyset may enters late
+    enters_reservation past old new legal says by moment keyset counter job tar name body may rooms.0 rooms.1 enters late count
+enters-says past (Done by moment keyset counter answer) old new legal says may room enters late count =
+    enters_done past old new legal says by moment keyset counter answer may enters late count
+enters-says past (Refused by moment keyset counter status) old new legal says may room enters late count =
+    enters_refused past old new legal says by moment keyset counter status may enters late count
+enters-says past (Close by moment keyset) old new legal says may room enters late count =
+    enters_close past old new legal says by moment keyset may enters late count

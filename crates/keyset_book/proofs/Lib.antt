@@ -1,4 +1,5 @@
 pub mod CounterLemmas
+pub mod PositionLemmas
 pub mod PastLemmas
 pub mod RuleLemmas
 pub mod EnteringLemmas

@@ -1,6 +1,6 @@
 -- The history that a book stands for, and what it has room for.
-use Rattle.std.specs.Prelude.{◌≡◌, ℕ, Bool, true, false, ◌&&◌, if◌then◌else◌, unwrap_or, Option, Some, None, List, reverse, find}
-use Rattle.std.specs.List.{list_any, list_all}
+use Rattle.std.specs.Prelude.{◌≡◌, ◌≤◌, ℕ, Bool, true, false, ◌&&◌, if◌then◌else◌, unwrap_or, Option, Some, None, List, length, reverse, find}
+use Rattle.std.specs.List.{list_any, list_all, position}
 use Rattle.ota_core.specs.Keyset.{Keyset}
 use Rattle.ota_core.specs.Entry.{Reservation, facts_in, counter_in, is_close_of, is_reserve_of, is_settlement_of}
 use Rattle.ota_core.specs.History.{first_some, last_reservation, IsLegal}
@@ -9,7 +9,7 @@ use Rattle.ota_core.specs.declared.jobs.JobId.{JobId}
 use Rattle.ota_core.specs.declared.keysets.KeysetFacts.{KeysetFacts}
 use Rattle.ota_core.specs.declared.entries.Entry.{Entry}
 use Rattle.ota_core.specs.declared.entries.Entry.TheVariants as entry
-use Rattle.keyset_book.specs.Tables.{known_in, has_keyset_place, reserved_in, has_job_place, standing_in, has_counter_place}
+use Rattle.keyset_book.specs.Tables.{known_in, has_keyset_place, reserved_in, has_job_place, standing_in, position_in, has_counter_place}
 use Rattle.keyset_book.specs.declared.keyset_table.Known.{Known}
 use Rattle.keyset_book.specs.declared.counter_table.Standing.{Standing}
 use Rattle.keyset_book.specs.declared.counter_table.Standing.TheVariants as standing
@@ -35,12 +35,18 @@ abbrev pub standing_by : Reservation → List Entry → Option Standing
 standing_by counter past =
     if list_any (is_reserve_of counter) past then Some (standing_of (find (is_settlement_of counter) past)) else None
 
--- the book says of each keyset, job and counter, and of the last moment, what the past says
+-- the book knows how many entries the past has, and at which position of the history each counter is reserved
+pub record KnowsPositions (past : List Entry) (book : Book) : Type 0 where
+  pub count : book.entries ≡ length past
+  pub positions : (counter : Reservation) (place : ℕ) → position (is_reserve_of counter) (reverse past) ≡ Some place → position_in book.counters counter ≡ place
+
+-- the book says of each keyset, job and counter, and of the last moment, what the past says. It counts no further than 64 bits reach.
 pub record IsBookOf (past : List Entry) (book : Book) : Type 0 where
   pub keysets : (keyset : Keyset) → known_in book.keysets keyset ≡ known_by keyset past
   pub jobs : (job : JobId) → reserved_in book.jobs job ≡ last_reservation job past
   pub counters : (counter : Reservation) → standing_in book.counters counter ≡ standing_by counter past
   pub moment : book.moment ≡ last_moment past
+  pub positions : length past ≤ 0xFFFF_FFFF_FFFF_FFFF → KnowsPositions past book
 
 -- the book stands for this legal history
 pub record StandsFor (book : Book) (history : List Entry) : Type 0 where

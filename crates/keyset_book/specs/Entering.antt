@@ -6,7 +6,7 @@ use Rattle.ota_core.specs.declared.jobs.JobId.{JobId}
 use Rattle.ota_core.specs.declared.keysets.KeysetFacts.{KeysetFacts}
 use Rattle.ota_core.specs.declared.entries.Entry.{Entry}
 use Rattle.ota_core.specs.declared.entries.Entry.TheVariants as entry
-use Rattle.keyset_book.specs.Tables.{known_in, has_keyset_place, FillsKeyset, reserved_in, has_job_place, FillsJob, standing_in, has_counter_place, FillsCounter}
+use Rattle.keyset_book.specs.Tables.{known_in, has_keyset_place, FillsKeyset, reserved_in, has_job_place, FillsJob, standing_in, has_counter_place, FillsCounter, FillsPosition, SamePositions}
 use Rattle.keyset_book.specs.declared.keyset_table.Known.{Known}
 use Rattle.keyset_book.specs.declared.counter_table.Standing.{Standing}
 use Rattle.keyset_book.specs.declared.counter_table.Standing.TheVariants as standing
@@ -25,12 +25,14 @@ pub record Reserves (old : Book) (counter : Reservation) (job : JobId) (new : Bo
       → FillsKeyset old.keysets counter.keyset (record { facts = known.facts; last = counter.counter; closed = known.closed }) new.keysets
   pub jobs : has_job_place old.jobs job ≡ true → FillsJob old.jobs job counter new.jobs
   pub counters : has_counter_place old.counters counter ≡ true → FillsCounter old.counters counter standing.Unsettled new.counters
+  pub positions : has_counter_place old.counters counter ≡ true → FillsPosition old.counters counter old.entries new.counters
 
 -- the counter is settled so
 pub record Settles (old : Book) (counter : Reservation) (how : Standing) (new : Book) : Type 0 where
   pub keysets : new.keysets ≡ old.keysets
   pub jobs : new.jobs ≡ old.jobs
   pub counters : has_counter_place old.counters counter ≡ true → FillsCounter old.counters counter how new.counters
+  pub positions : SamePositions old.counters new.counters
 
 -- the keyset is closed
 pub record Closes (old : Book) (keyset : Keyset) (new : Book) : Type 0 where
@@ -58,4 +60,6 @@ pub record SaysSame (old new : Book) : Type 0 where
   pub keysets : (keyset : Keyset) → known_in new.keysets keyset ≡ known_in old.keysets keyset
   pub jobs : (job : JobId) → reserved_in new.jobs job ≡ reserved_in old.jobs job
   pub counters : (counter : Reservation) → standing_in new.counters counter ≡ standing_in old.counters counter
+  pub positions : SamePositions old.counters new.counters
   pub moment : new.moment ≡ old.moment
+  pub count : new.entries ≡ old.entries

@@ -23,12 +23,14 @@ pub struct Book {
     pub(crate) counters: CounterTable,
     /// The moment of the last entry, or 0 where there is none.
     pub(crate) moment: u64,
+    /// How many entries were put.
+    pub(crate) entries: u64,
 }
 
 impl Book {
-    ghost use Rattle.std.specs.Prelude.{◌≡◌, true, List, [], ◌∷◌, ◌++◌, reverse, find, None, Some, is_ok, OnOk, OnErr, IfOk, MatchResult};
+    ghost use Rattle.std.specs.Prelude.{◌≡◌, ◌≤◌, true, List, length, [], ◌∷◌, ◌++◌, reverse, find, None, Some, is_ok, OnOk, OnErr, IfOk, MatchResult};
     ghost use Rattle.std.specs.Result.{result_err};
-    ghost use Rattle.std.specs.List.{list_any, list_all};
+    ghost use Rattle.std.specs.List.{list_any, list_all, position};
     ghost use Rattle.ota_core.specs.Entry.{counter_in, is_reserve_of, is_settlement_of};
     ghost use Rattle.ota_core.specs.History.{first_some, broken, broken_batch, last_reservation};
     ghost use Rattle.ota_core.specs.Questions.{state_of, opened_facts, last_moment};
@@ -46,6 +48,7 @@ impl Book {
             jobs: JobTable::new(alloc),
             counters: CounterTable::new(alloc),
             moment: 0,
+            entries: 0,
         }
     }
 
@@ -162,6 +165,16 @@ impl Book {
         ensures { (history : List Entry) → StandsFor self.now history → result ≡ list_any (is_reserve_of counter) (reverse history) }
     {
         self.counters.look(counter).is_some()
+    }
+
+    /// The position in the history, from 0, of the entry that reserves the counter. It takes no memory.
+    pub fn position(&self, counter: Reservation) -> Option<u64>
+        ensures { (history : List Entry) → StandsFor self.now history → length history ≤ 0xFFFF_FFFF_FFFF_FFFF → result ≡ position (is_reserve_of counter) history }
+    {
+        if self.has_reserve(counter) {
+            return Some(self.counters.position(counter));
+        }
+        None
     }
 
     /// How the counter is settled, where it is.

@@ -1,6 +1,6 @@
 //! What an entry changes in a book. Each function fills places that are there, and takes no memory.
 
-ghost use Rattle.std.specs.Prelude.{◌≡◌};
+ghost use Rattle.std.specs.Prelude.{◌≡◌, ◌+◌, min};
 ghost use Rattle.ota_core.specs.Entry.{moment_of};
 ghost use Rattle.keyset_book.specs.Entering.{Opens, Reserves, Settles, Closes, Enters, KeepsPlaces};
 
@@ -12,15 +12,18 @@ use ota_core::{Entry, JobId, KeysetFacts, KeysetId, Reservation};
 /// Enters an entry.
 pub(crate) fn enter(book: &mut Book, entry: &Entry)
     ensures moment { book.new.moment ≡ moment_of entry.now }
+    ensures count { book.new.entries ≡ min (book.old.entries + 1) 0xFFFF_FFFF_FFFF_FFFF }
     ensures entered { Enters book.old entry.now book.new }
     ensures kept { KeepsPlaces book.old book.new }
 {
-    book.moment = entry.moment();
     change(book, entry);
+    book.moment = entry.moment();
+    book.entries = book.entries.saturating_add(1);
 }
 
 fn change(book: &mut Book, entry: &Entry)
     ensures moment { book.new.moment ≡ book.old.moment }
+    ensures count { book.new.entries ≡ book.old.entries }
     ensures entered { Enters book.old entry.now book.new }
     ensures kept { KeepsPlaces book.old book.new }
 {
@@ -67,6 +70,7 @@ fn change(book: &mut Book, entry: &Entry)
 
 fn put_open(book: &mut Book, keyset: KeysetId, facts: KeysetFacts)
     ensures moment { book.new.moment ≡ book.old.moment }
+    ensures count { book.new.entries ≡ book.old.entries }
     ensures entered { Opens book.old keyset facts book.new }
     ensures kept { KeepsPlaces book.old book.new }
 {
@@ -80,6 +84,7 @@ fn put_open(book: &mut Book, keyset: KeysetId, facts: KeysetFacts)
 
 fn put_reservation(book: &mut Book, counter: Reservation, job: JobId)
     ensures moment { book.new.moment ≡ book.old.moment }
+    ensures count { book.new.entries ≡ book.old.entries }
     ensures entered { Reserves book.old counter job book.new }
     ensures kept { KeepsPlaces book.old book.new }
 {
@@ -92,19 +97,21 @@ fn put_reservation(book: &mut Book, counter: Reservation, job: JobId)
         book.keysets.fill(counter.keyset, known);
     }
     book.jobs.fill(job, counter);
-    book.counters.fill(counter, Standing::Unsettled);
+    book.counters.reserve(counter, book.entries);
 }
 
 fn put_settlement(book: &mut Book, counter: Reservation, how: Standing)
     ensures moment { book.new.moment ≡ book.old.moment }
+    ensures count { book.new.entries ≡ book.old.entries }
     ensures entered { Settles book.old counter how book.new }
     ensures kept { KeepsPlaces book.old book.new }
 {
-    book.counters.fill(counter, how);
+    book.counters.settle(counter, how);
 }
 
 fn put_close(book: &mut Book, keyset: KeysetId)
     ensures moment { book.new.moment ≡ book.old.moment }
+    ensures count { book.new.entries ≡ book.old.entries }
     ensures entered { Closes book.old keyset book.new }
     ensures kept { KeepsPlaces book.old book.new }
 {

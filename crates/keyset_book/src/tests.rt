@@ -256,6 +256,19 @@ fn jobs_are_looked_up(rt: HostRuntime) -> Result<(), Fail> {
 }
 
 #[test]
+fn reservations_have_their_positions(rt: HostRuntime) -> Result<(), Fail> {
+    let alloc = rt.alloc();
+    let book = book_of(alloc, campaign(alloc)?)?;
+    assert!(rt; book.position(place(keyset(1), Counter(1))) == Some(2));
+    assert!(rt; book.position(place(keyset(1), Counter(2))) == Some(3));
+    assert!(rt; book.position(place(keyset(3), Counter(17))) == Some(5));
+    assert!(rt; book.position(place(keyset(3), Counter(18))) == Some(7));
+    assert!(rt; book.position(place(keyset(1), Counter(17))).is_none());
+    assert!(rt; book.position(place(keyset(3), Counter(16))).is_none());
+    Ok(())
+}
+
+#[test]
 fn room_says_nothing(rt: HostRuntime) -> Result<(), Fail> {
     let alloc = rt.alloc();
     let mut book = Book::new(alloc);
