@@ -72,7 +72,8 @@ impl Kept {
 
     /// Whether a command of the script that was stored last is left.
     pub fn has_command(&self) -> bool
-        ensures { result ≡ is_some self.now.script }
+        ensures left { result ≡ is_some self.now.script }
+        ensures begins { IfSome self.now.script (λ script. script.next < length script.body) }
     {
         self.script.is_some()
     }

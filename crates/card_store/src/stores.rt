@@ -73,6 +73,7 @@ impl<D: DiskCalls> CardStore<D> {
     pub fn open(alloc: Global, disk: D, facts: &CardFacts) -> Result<CardStore<D>, (D, StoreErr)>
         ensures opened { Tells D.told disk → IfOk result (IsOpenedStore D.told (D.told.seen disk)) }
         ensures ready { IfOk result (λ store. (store.facts ≡ facts.now) × (store.ready ≡ true)) }
+        ensures stands { IfOk result (λ store. (content : Content) × StandsFor D.told store content) }
         ensures refused { Tells D.told disk → IfErr result (λ refusal. StoreRefuses facts.now (parts_of store_head (D.told.seen disk)) refusal.1) }
         ensures left { Tells D.told disk → IfErr result (λ refusal. UnlessFault (error_in result) (IsLeftByRefusal (D.told.seen disk) (D.told.seen refusal.0))) }
         ensures moments { Tells D.told disk → DiskRun D.told disk (disk_in result) (IsBeforeOrOpened D.told disk) }
@@ -103,6 +104,7 @@ impl<D: DiskCalls> CardStore<D> {
     pub fn reopen(&mut self) -> Result<(), StoreErr>
         ensures opened { Tells D.told self.old.disk → OnOk result (IsOpenedStore D.told (D.told.seen self.old.disk) self.new) }
         ensures ready { OnOk result (self.new.ready ≡ true) }
+        ensures stands { OnOk result ((content : Content) × StandsFor D.told self.new content) }
         ensures refused { Tells D.told self.old.disk → IfErr result (StoreRefuses self.old.facts (parts_of store_head (D.told.seen self.old.disk))) }
         ensures left { Tells D.told self.old.disk → OnErr result (UnlessFault result (IsLeftByRefusal (D.told.seen self.old.disk) (D.told.seen self.new.disk))) }
         ensures same { OnErr result (self.new ≡ record self.old { disk = self.new.disk; ready = false }) }
@@ -237,7 +239,8 @@ impl<D: DiskCalls> CardStore<D> {
 
     /// Whether a command of the script that was stored last is left: not all were run, and none ended it.
     pub fn has_command(&self) -> bool
-        ensures { result ≡ is_some self.now.shown.script }
+        ensures left { result ≡ is_some self.now.shown.script }
+        ensures begins { IfSome self.now.shown.script (λ script. script.next < length script.body) }
     {
         self.kept.has_command()
     }

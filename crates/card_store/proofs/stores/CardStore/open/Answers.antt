@@ -21,3 +21,11 @@ returns-in-Ok-clause-opened g c = λ tells.
     let e = c.in-Ok.ensures in
     let answer = subst (λ (facts : CardFacts). Tells told c.args.disk → IsReplayedAs facts (told.seen c.args.disk) (told.seen c.open_anew.new.disk) anew.opened) (sym e.made.0) e.answer in
     opened_store told c.args.disk c.open_anew.new.disk anew.facts anew.opened e.tells (answer tells) (e.settled tells)
+
+pub returns-in-Ok-clause-stands : goal.returns-in-Ok-clause-stands
+returns-in-Ok-clause-stands g c =
+    let told = g.D.DiskCalls.told in
+    let anew = c.in-Ok.anew in
+    let e = c.in-Ok.ensures in
+    let answer = subst (λ (facts : CardFacts). Tells told c.args.disk → IsReplayedAs facts (told.seen c.args.disk) (told.seen c.open_anew.new.disk) anew.opened) (sym e.made.0) e.answer in
+    opened_stands told c.args.disk c.open_anew.new.disk anew.facts anew.opened e.tells e.shown answer e.settled

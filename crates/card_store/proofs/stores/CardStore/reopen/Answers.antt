@@ -24,3 +24,9 @@ returns-clause-opened g c =
     subst (λ s. Tells told s.disk → IsOpenedStore told (told.seen s.disk) (record { disk = c.open_log.new.disk; facts = inside.facts; shown = c.in_ok-opened.opened.kept; length = c.in_ok-opened.opened.log; ready = true }))
     c.self.view_is
     (λ tells. opened_store told inside.disk c.open_log.new.disk inside.facts c.in_ok-opened.opened opened.tells (opened.answer tells) (opened.settled tells))
+
+pub returns-clause-stands : goal.returns-clause-stands
+returns-clause-stands g c =
+    let inside = c.self.inside in
+    let opened = c.in_ok-opened.ensures in
+    opened_stands g.D.DiskCalls.told inside.disk c.open_log.new.disk inside.facts c.in_ok-opened.opened opened.tells opened.shown opened.answer opened.settled
