@@ -1,0 +1,10 @@
+pub mod Fields
+pub mod Verdict
+pub mod Answer
+pub mod Stops
+pub mod Taking
+pub mod Running
+pub mod Card
+pub mod Receiving
+pub mod Opening
+pub mod Laws
