@@ -1,19 +1,20 @@
 -- What is read of the rows of a list of jobs.
-use Rattle.std.proofs.Common.{◌≡◌, ◌∙◌, refl, sym, ℕ, ◌+◌, ◌/◌, nat_lt, nat_le, ◌≤◌, ◌==◌, ◌&&◌, ◌||◌, IsTrue, not, Bool, true, false, List, [], ◌∷◌, ◌++◌, length, map, Option, Some, None, arith, inl, inr}
+use Rattle.std.proofs.Common.{◌≡◌, ◌∙◌, refl, sym, ℕ, ◌+◌, ◌/◌, nat_lt, nat_le, ◌≤◌, ◌<◌, ◌==◌, ◌&&◌, ◌||◌, IsTrue, not, Bool, true, false, List, [], ◌∷◌, ◌++◌, length, map, Option, Some, None, unwrap_or, arith, inl, inr}
 use Rattle.std.proofs.lemmas.Bool.{cases_Bool, eqb-true, false≢true}
 use Rattle.std.proofs.lemmas.Bool.Decides.{nat_tests}
 use Rattle.std.proofs.lemmas.List.Folds.{list_any-append}
 use Rattle.ota_core.specs.declared.jobs.JobId.{JobId}
 use Rattle.ota_core.specs.declared.jobs.Job.{Job}
-use Rattle.plan_reader.specs.Check.{Check, first_wrong, is_wrong, outcome}
+use Rattle.plan_reader.specs.Check.{first_wrong, is_wrong, says, outcome}
 use Rattle.plan_reader.specs.Hexadecimal.{octets_of}
-use Rattle.plan_reader.specs.JobRows.{Row, cell, is_header, is_listed, job_number_of, kvn_in, script_in, longest_script, takes_wide, job_said, has_job_number, row_checks, first_of_rows, jobs_of_records, NamesRow, RefusesJobs, AreListed}
+use Rattle.plan_reader.specs.JobRows.{Row, cell, is_header, card_in, is_listed, job_number_of, card_number_of, kvn_in, script_in, longest_script, takes_wide, job_said, has_job_number, row_checks, first_of_rows, jobs_of_records, NamesRow, RefusesJobs, AreListed}
 use Rattle.plan_reader.specs.Jobs.{has_job, are_distinct}
 use Rattle.plan_reader.specs.RowsLeft.{Takes}
 use Rattle.plan_reader.specs.declared.columns.Column.{Column}
 use Rattle.plan_reader.specs.declared.job_lists.JobsErr.{JobsErr}
 use Rattle.plan_reader.specs.declared.job_lists.JobsErr.TheVariants.{Refused, Memory}
 use Rattle.plan_reader.specs.declared.plans.Plan.{Plan}
+use Rattle.plan_reader.proofs.CheckLemmas.{all-right, right-value}
 use Rattle.plan_reader.proofs.HexadecimalLemmas.{octets_of-reads}
 
 -- a script of another length than a card takes is wrong
@@ -49,21 +50,6 @@ rows-right plan before row rows right = rw right refl
 pub rows-wrong : (plan : Plan) (before : List Job) (row : Row) (rows : List Row) (column : Column) → first_wrong (row_checks plan before row) ≡ Some column
     → first_of_rows plan before (row ∷ rows) ≡ Some (length before + 1, column)
 rows-wrong plan before row rows column wrong = rw wrong refl
-
--- each check finds nothing wrong
-abbrev AllRight : List (Check Column) → Type 0
-AllRight [] = Unit {0}
-AllRight (check ∷ checks) = (check.0 ≡ false) × AllRight checks
-
-all-right : (checks : List (Check Column)) → first_wrong checks ≡ None → AllRight checks
-all-right [] right = tt
-all-right ((true, column) ∷ checks) right = cc right
-all-right ((false, column) ∷ checks) right = (refl, all-right checks right)
-
--- a reading that isn't wrong has a value that isn't barred
-right-value : {A : Type 0} (barred : A → Bool) (read : Option A) → is_wrong barred read ≡ false → (value : A) × (read ≡ Some value) × (barred value ≡ false)
-right-value barred None right = cc right
-right-value barred (Some value) right = (value, refl, right)
 
 -- what a row in which nothing is wrong says
 record Right (plan : Plan) (before : List Job) (row : Row) : Type 0 where
@@ -175,6 +161,20 @@ longest : (wide : Bool) (len : ℕ) → nat_lt (longest_script wide) len ≡ fal
 longest true len short = grind (arith, nat_tests)
 longest false len short = grind (arith, nat_tests)
 
+-- a script that is longer than others may be is for a wide card
+wide_alone : (wide : Bool) (len : ℕ) → nat_lt (longest_script wide) len ≡ false → 1024 < len → wide ≡ true
+wide_alone true len short long = refl
+wide_alone false len short long = absurd (let above : len ≤ 1024 = grind (arith, nat_tests, short) in omega (arith, above, long))
+
+-- the card of a row is that of its job
+said-wide : (plan : Plan) (row : Row) → takes_wide plan row ≡ true → IsTrue (says (λ card. card.wide) (card_in plan (job_said plan row).keyset.card.0))
+unfolding job_said
+said-wide plan row wide = by (card_number_of row) refl
+  where
+    by : (read : Option ℕ) → card_number_of row ≡ read → IsTrue (says (λ card. card.wide) (card_in plan (unwrap_or (card_number_of row) 0)))
+    by None is = let none = rw is at wide in cc none
+    by (Some number) is = rw is (rw is at wide)
+
 -- each job of a list is one that the plan allows
 pub jobs-listed : (plan : Plan) (before : List Job) (rows : List Row) → first_of_rows plan before rows ≡ None → AreListed plan (map (job_said plan) rows)
 jobs-listed plan before [] right = tt
@@ -186,6 +186,7 @@ jobs-listed plan before (row ∷ rows) right =
         keyset = is.listed;
         filled = rw body (script-filled row is.script is.script_is);
         short = rw body (longest (takes_wide plan row) (length is.script) is.short);
+        wide = λ long. said-wide plan row (wide_alone (takes_wide plan row) (length is.script) is.short (rw body at long));
       },
       jobs-listed plan (before ++ job_said plan row ∷ []) rows more,
     )

@@ -1,7 +1,9 @@
 pub mod PlanIndexLemmas
 pub mod RecordLemmas
 pub mod PlanTableLemmas
+pub mod CheckLemmas
 pub mod PlaceLemmas
+pub mod LaterLemmas
 pub mod DocumentLemmas
 pub mod NumberLemmas
 pub mod HexadecimalLemmas

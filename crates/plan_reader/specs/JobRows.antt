@@ -1,5 +1,5 @@
 -- The list of jobs as the records of a CSV text: the columns, what they must be, and the jobs that the rows say.
-use Rattle.std.specs.Prelude.{◌≡◌, ℕ, ◌≤◌, IsTrue, ◌+◌, ◌/◌, nat_lt, nat_le, ◌==◌, ◌&&◌, ◌||◌, not, Bool, true, false, if◌then◌else◌, Option, Some, None, is_none, option_map, unwrap_or, Result, Err, List, [], ◌∷◌, ◌++◌, length, map, find, codes, bytes_eq}
+use Rattle.std.specs.Prelude.{◌≡◌, ℕ, ◌≤◌, ◌<◌, IsTrue, ◌+◌, ◌/◌, nat_lt, nat_le, ◌==◌, ◌&&◌, ◌||◌, not, Bool, true, false, if◌then◌else◌, Option, Some, None, is_none, option_map, unwrap_or, Result, Err, List, [], ◌∷◌, ◌++◌, length, map, find, codes, bytes_eq}
 use Rattle.std.specs.Option.{option_or}
 use Rattle.std.specs.List.{list_any}
 use Rattle.csv.specs.Reading.{default_config, records, strip_bom}
@@ -135,12 +135,14 @@ abbrev pub RefusesJobs : Result (List Job) JobsFault → JobsErr → Type 0
 RefusesJobs reading (Refused row wrong) = reading ≡ Err (row, wrong)
 RefusesJobs reading Memory = Unit {0}
 
--- a job that the plan allows: of its campaign, on one of its keysets, with a script of 1 to 4,096 octets
+-- a job that the plan allows: of its campaign, on one of its keysets, with a script of 1 to 4,096 octets, and of at most
+-- 1,024 where the card takes no messages with a reference of two octets
 pub record IsListed (plan : Plan) (job : Job) : Type 0 where
   pub campaign : job.id.campaign ≡ plan.campaign
   pub keyset : IsTrue (is_listed plan job.keyset)
   pub filled : 1 ≤ length job.body
   pub short : length job.body ≤ 4096
+  pub wide : 1024 < length job.body → IsTrue (says (λ card. card.wide) (card_in plan job.keyset.card.0))
 
 -- each job of the list is one that the plan allows
 abbrev pub AreListed : Plan → List Job → Type 0

@@ -11,6 +11,7 @@ pub mod JobRows
 pub mod TableList
 pub mod CardPlaces
 pub mod KeysetPlaces
+pub mod LaterKeysets
 pub mod RowsLeft
 pub mod PlanPlaces
 pub mod RowStop

@@ -25,6 +25,7 @@ pub(crate) fn read_cards(alloc: Global, entries: &[&Table]) -> Result<CardTable,
     requires few { length entries.now ≤ 10000 }
     ensures right { IfOk result (λ _. first_of_entries which.Card card_said card_checks [] (tables_pointed entries.now) ≡ None) }
     ensures cards { IfOk result (λ cards. cards ≡ map card_said (tables_pointed entries.now)) }
+    ensures few { IfOk result (λ cards. length cards ≤ 10000) }
     ensures err { IfErr result (Names (first_of_entries which.Card card_said card_checks [] (tables_pointed entries.now))) }
 {
     let mut cards = CardTable::new(alloc);

@@ -1,10 +1,10 @@
 //! The cards that a plan lists, found by their numbers.
 
-ghost use Rattle.std.specs.Prelude.{◌≡◌, false, [], ◌∷◌, ◌++◌, map, IfOk};
+ghost use Rattle.std.specs.Prelude.{◌≡◌, false, [], ◌∷◌, ◌++◌, map, IsTrue, IfOk};
 ghost use Rattle.std.specs.List.{list_any};
 ghost use Rattle.plan_reader.specs.Plan.{is_keyset_of};
 ghost use Rattle.plan_reader.specs.PlanTable.{has_number};
-ghost use Rattle.plan_reader.specs.CardPlaces.{with_more};
+ghost use Rattle.plan_reader.specs.CardPlaces.{have_own_numbers, with_more};
 
 use crate::plans::CardList;
 use ota_core::{CardFacts, KeysetFacts, KeysetId, Memory};
@@ -81,7 +81,8 @@ impl CardTable {
 
     /// The cards in order.
     pub(crate) fn into_cards(self) -> CardList
-        ensures { result ≡ self }
+        ensures cards { result ≡ self }
+        ensures distinct { IsTrue (have_own_numbers result) }
     {
         CardList::from_cards(self.cards)
     }

@@ -1,11 +1,13 @@
 //! A plan as a TOML document.
 
-ghost use Rattle.std.specs.Prelude.{◌≡◌, ◌≤◌, ◌<◌, Some, None, Ok, [], map, length, option_map, IfOk, IfErr};
+ghost use Rattle.std.specs.Prelude.{◌≡◌, ◌≤◌, ◌<◌, Some, None, Ok, [], map, length, option_map, IsTrue, IfOk, IfErr};
 ghost use Rattle.toml.specs.View.{table_view};
 ghost use Rattle.plan_reader.specs.FieldValue.{has_other_name};
 ghost use Rattle.plan_reader.specs.PlanTable.{top_names, campaign_of, cards_of, keysets_of, card_list, keyset_list, top_checks, keyset_list_checks, first_in_plan, plan_of_lists, with_issued, plan_in, plan_of, Names, RefusesPlan};
 ghost use Rattle.plan_reader.specs.Check.{first_wrong};
 ghost use Rattle.plan_reader.specs.TableList.{tables_said};
+ghost use Rattle.plan_reader.specs.CardPlaces.{have_own_numbers};
+ghost use Rattle.plan_reader.specs.LaterKeysets.{AreLater, AreOfCards};
 
 use crate::card_entries::read_cards;
 use crate::card_table::CardTable;
@@ -27,11 +29,15 @@ const MOST_CARDS: usize = 10_000;
 const MOST_KEYSETS: usize = 20_000;
 
 /// Reads a plan: a TOML document with the campaign's number, its cards and their keysets. It is refused exactly with
-/// the first thing that is wrong, in this order: the document, the top, the cards, the keysets.
+/// the first thing that is wrong, in this order: the document, the top, the cards, the keysets. No two cards of a plan
+/// have one number; a keyset that is put later begins at 0, on a card that isn't issued with it.
 #[tactic(auto, unfolding(crate::specs::PlanTable::plan_of))]
 pub fn read_plan(alloc: Global, octets: &[u8]) -> Result<Plan, PlanErr>
     ensures ok { IfOk result (λ plan. plan_of octets.now ≡ Ok plan) }
     ensures err { IfErr result (RefusesPlan (plan_of octets.now)) }
+    ensures distinct { IfOk result (λ plan. IsTrue (have_own_numbers plan.cards)) }
+    ensures few { IfOk result (λ plan. length plan.cards ≤ 10000) }
+    ensures later { IfOk result (λ plan. AreLater plan plan.later) }
 {
     match document(alloc, octets)? {
         Some(top) => read_top(alloc, &top),
@@ -44,12 +50,15 @@ pub fn read_plan(alloc: Global, octets: &[u8]) -> Result<Plan, PlanErr>
 fn read_top(alloc: Global, top: &Table) -> Result<Plan, PlanErr>
     ensures right { IfOk result (λ _. first_in_plan (table_view top.now) ≡ None) }
     ensures plan { IfOk result (λ plan. plan ≡ plan_in (table_view top.now)) }
+    ensures distinct { IfOk result (λ plan. IsTrue (have_own_numbers plan.cards)) }
+    ensures few { IfOk result (λ plan. length plan.cards ≤ 10000) }
+    ensures later { IfOk result (λ plan. AreLater plan plan.later) }
     ensures err { IfErr result (Names (first_in_plan (table_view top.now))) }
 {
     let (campaign, cards) = read_front(alloc, top)?;
     let cards = read_cards(alloc, cards.as_slice())?;
-    let keysets = read_keyset_list(alloc, top)?;
-    let keysets = read_keysets(alloc, keysets.as_slice(), &cards)?;
+    let listed = read_keyset_list(alloc, top)?;
+    let keysets = read_keysets(alloc, listed.as_slice(), &cards)?;
     Ok(make_plan(alloc, campaign, cards, &keysets)?)
 }
 
@@ -134,7 +143,12 @@ fn make_plan(
     keysets: &KeysetTable,
 ) -> Result<Plan, Memory>
     requires bare { map (with_issued []) cards ≡ cards }
-    ensures { IfOk result (λ plan. plan ≡ plan_of_lists campaign cards keysets.now) }
+    requires few { length cards ≤ 10000 }
+    requires right { AreOfCards cards keysets.now }
+    ensures plan { IfOk result (λ plan. plan ≡ plan_of_lists campaign cards keysets.now) }
+    ensures distinct { IfOk result (λ plan. IsTrue (have_own_numbers plan.cards)) }
+    ensures few { IfOk result (λ plan. length plan.cards ≤ 10000) }
+    ensures later { IfOk result (λ plan. AreLater plan plan.later) }
 {
     let mut cards = cards;
     let mut later = LaterList::new(alloc);

@@ -1,6 +1,11 @@
-use Rattle.std.proofs.Common.{take}
-use Rattle.std.proofs.lemmas.List.{take_more}
+use Rattle.std.proofs.Common.{◌≡◌, ◌∙◌, ap, sym, subst, List, map, arith, take}
+use Rattle.std.proofs.lemmas.List.{take_more, take_all}
 use Rattle.plan_reader.proofs.PlanTableLemmas.{not-before, not-issued, all-more-issued, no-more-later, all-same-issued, more-later}
+use Rattle.plan_reader.specs.PlanTable.{with_issued, later_of, plan_of_lists}
+use Rattle.plan_reader.specs.LaterKeysets.{AreLater}
+use Rattle.plan_reader.specs.declared.keyset_table.Listing.{Listing}
+use Rattle.plan_reader.specs.declared.plans.Plan.{Plan}
+use Rattle.plan_reader.proofs.LaterLemmas.{are-later}
 use Rattle.plan_reader.proofs.plan_documents.make_plan.Goals as goal
 use Rattle.plan_reader.proofs.plan_documents.make_plan.Goals.{then-listing+in_ok-push, else-listing+in_ok-cards}
 
@@ -32,3 +37,15 @@ loop-listing-preserved c =
         rw (w.later-is, later) (no-more-later done listing w.if-listing.false),
       )
     ])
+
+pub returns-clause-later : goal.returns-clause-later
+returns-clause-later c =
+    let all = take_all c.loop-listing.listing-index c.as_slice-listing-items.result.now (omega (arith, c.loop-listing-test.false)) ∙ c.as_slice-listing-items.ensures.keysets in
+    let cards : c.into_cards.result ≡ map (with_issued c.args.keysets.now) c.args.cards =
+    c.into_cards.ensures.cards ∙ c.loop-listing.invariant.0 ∙ ap (λ (l : List Listing). map (with_issued l) c.args.cards) all in
+    let later : c.loop-listing.later ≡ later_of c.args.keysets.now = c.loop-listing.invariant.1 ∙ ap later_of all in
+    let given : Plan = record { campaign = c.args.campaign; cards = c.into_cards.result; later = c.loop-listing.later } in
+    let plan : given ≡ (plan_of_lists c.args.campaign c.args.cards c.args.keysets.now) =
+    λ i. record { campaign = c.args.campaign; cards = cards i; later = later i } in
+    subst (λ (p : Plan). AreLater p p.later) (sym plan)
+    (are-later c.args.campaign c.args.cards c.args.keysets.now c.requires.right c.as_slice-listing-items.ensures.distinct)
