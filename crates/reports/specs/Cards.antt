@@ -15,6 +15,7 @@ use Rattle.ota_core.specs.declared.questions.KeysetState.TheVariants as state
 use Rattle.keyset_book.specs.Answers.{settled_in}
 use Rattle.keyset_book.specs.declared.answers.Settled.{Settled}
 use Rattle.keyset_book.specs.declared.answers.Settled.TheVariants.{Done, Refused}
+use Rattle.plan_reader.specs.declared.plans.Plan.{Plan}
 use Rattle.reports.specs.Report.{counter_text, history_of}
 use Rattle.reports.specs.declared.keyset_counts.Counts.{Counts}
 
@@ -101,6 +102,6 @@ abbrev pub card_rows : List (List Entry) → List (Keyset × KeysetFacts) → Ca
 card_rows histories later card =
     flat_map (keyset_row (card.card.0 % length histories) (history_of histories card.card)) (listed_keysets later card)
 
--- the text of the keysets of cards, by the histories of the lanes
-abbrev pub cards_of : List CardFacts → List (Keyset × KeysetFacts) → List (List Entry) → List ℕ
-cards_of cards later histories = cards_header ++ flat_map (card_rows histories later) cards
+-- the text of the keysets of a plan, by the histories of the lanes
+abbrev pub cards_of : Plan → List (List Entry) → List ℕ
+cards_of plan histories = cards_header ++ flat_map (card_rows histories plan.later) plan.cards

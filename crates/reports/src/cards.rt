@@ -10,6 +10,7 @@ use crate::lane_books::{LaneBook, lane_of};
 use crate::later_keysets::LaterKeysets;
 use crate::report::put_counter;
 use ota_core::{CardFacts, Counter, History, KeysetFacts, KeysetId, KeysetState, Memory};
+use plan_reader::Plan;
 use std::alloc::Global;
 
 /// The keysets of a plan, by the histories of the lanes in their order: those that its cards are issued with, and those
@@ -19,19 +20,14 @@ use std::alloc::Global;
 /// keyset, in order of the cards; a card's later keysets stand behind those that it is issued with. `state` is `new`,
 /// `open` or `closed`; `last` is the last reserved counter, or the base where none is reserved, in ten hexadecimal digits;
 /// behind it stand how many counters are reserved, and how many of these are settled as done, as refused, and not at all.
-pub fn cards_text(
-    alloc: Global,
-    cards: &[CardFacts],
-    later: &[(KeysetId, KeysetFacts)],
-    histories: &[History],
-) -> Result<String, Memory>
+pub fn cards_text(alloc: Global, plan: &Plan, histories: &[History]) -> Result<String, Memory>
     requires { 0 < length histories.now }
-    ensures { IfOk result (λ text. string_bytes text ≡ cards_of cards.now later.now (map entries_in histories.now)) }
+    ensures { IfOk result (λ text. string_bytes text ≡ cards_of plan.now (map entries_in histories.now)) }
 {
     let lanes = lane_counts(alloc, histories)?;
-    let later = LaterKeysets::of(alloc, later)?;
+    let later = LaterKeysets::of(alloc, plan.later.as_slice())?;
     let mut text = String::from_str(alloc, cards_header())?;
-    for card in cards {
+    for card in plan.cards.as_slice() {
         put_card(&mut text, &lanes, card, later.of_card(card.card))?;
     }
     Ok(text)

@@ -6,10 +6,11 @@ ghost use Rattle.reports.specs.Packets.{HasBody};
 
 use crate::{cards_text, packet_text, report_text, summary_text, times_text};
 use ota_core::{
-    CardFacts, CardId, Counter, Entry, History, Job, JobId, KeyBytes, KeysetFacts, KeysetId,
-    KeysetList, Memory, Mode, Octets, Tar,
+    CardId, Counter, Entry, History, Job, JobId, KeyBytes, KeysetFacts, KeysetId, Memory, Mode,
+    Octets, Tar,
 };
-use std::alloc::Global;
+use plan_reader::{Plan, read_plan};
+use std::alloc::{AllocError, Global};
 use std::test::Fail;
 
 const KIC: [u8; 16] = [
@@ -319,7 +320,7 @@ fn no_jobs_give_the_lines_of_columns(rt: HostRuntime) -> Result<(), Fail> {
         "job,name,reserved,settled\n"
     );
     assert_eq!(rt;
-        cards_text(alloc, &[], &[], &histories)?.as_str(),
+        cards_text(alloc, &plan_of(alloc, "")?, &histories)?.as_str(),
         "card,kvn,lane,state,last,reserved,done,refused,unsettled\n"
     );
     Ok(())
@@ -445,15 +446,20 @@ fn a_job_has_the_times_of_its_last_reservation(rt: HostRuntime) -> Result<(), Fa
     Ok(())
 }
 
-fn card(number: u64, keysets: KeysetList) -> CardFacts {
-    CardFacts {
-        card: CardId(number),
-        buffer: 1024,
-        rfm: TAR,
-        ram: Tar([0x00, 0x00, 0x00]),
-        keysets,
-        wide: false,
+/// The plan with these tables.
+fn plan_of(alloc: Global, tables: &str) -> Result<Plan, Fail> {
+    let text = format!(in alloc; "campaign = 7\n{tables}")?;
+    match read_plan(alloc, text.as_bytes()) {
+        Ok(plan) => Ok(plan),
+        Err(_) => Err(Fail::from("no plan")),
     }
+}
+
+/// The table of a keyset, with a key for the checksum of its own.
+fn listed(alloc: Global, card: u64, kvn: u8, rest: &str) -> Result<String, AllocError> {
+    format!(in alloc;
+        "[[keyset]]\ncard = {card}\nkvn = {kvn}\nkic = \"000102030405060708090a0b0c0d0e0f\"\nkid = \"{card:016}{kvn:016}\"\n{rest}\n"
+    )
 }
 
 // Card 8901 with keysets 1 and 3 and, later, 2; card 8902 with keyset 1, on the first of two lanes.
@@ -499,19 +505,24 @@ fn keysets_stand_card_by_card(rt: HostRuntime) -> Result<(), Fail> {
             keyset: keyset(3),
         },
     )?;
-    let mut keysets = KeysetList::new(alloc);
-    keysets.push(3, facts(Counter(0x2A), Mode::Higher, true)?)?;
-    keysets.push(1, facts(Counter(0xA), Mode::Higher, true)?)?;
-    let mut others = KeysetList::new(alloc);
-    others.push(1, facts(Counter(0xFF_FFFF_FFFF), Mode::Higher, true)?)?;
-    let cards = [card(8901, keysets), card(8902, others)];
-    let later = [
-        (keyset_of(8902, 9), facts(Counter(0), Mode::Higher, true)?),
-        (keyset_of(8901, 2), facts(Counter(0), Mode::Higher, true)?),
-        (keyset_of(8902, 2), facts(Counter(0), Mode::Higher, true)?),
-    ];
+    let mut tables = String::from_str(alloc, "[[card]]\nnumber = 8901\n[[card]]\nnumber = 8902\n")?;
+    for (card, kvn, rest) in [
+        (8902, 9, "put = true"),
+        (8901, 3, "base = \"000000002a\""),
+        (8901, 2, "put = true"),
+        (8901, 1, "base = \"000000000a\""),
+        (8902, 2, "put = true"),
+        (8902, 1, "base = \"ffffffffff\""),
+    ] {
+        tables.push_str(listed(alloc, card, kvn, rest)?.as_str())?;
+    }
     assert_eq!(rt;
-        cards_text(alloc, &cards, &later, &[History::new(alloc), history])?.as_str(),
+        cards_text(
+            alloc,
+            &plan_of(alloc, &tables)?,
+            &[History::new(alloc), history]
+        )?
+        .as_str(),
         "card,kvn,lane,state,last,reserved,done,refused,unsettled\n8901,3,1,closed,000000002a,0,0,0,0\n8901,1,1,open,000000000e,4,1,1,2\n8901,2,1,new,0000000000,0,0,0,0\n8902,1,0,new,ffffffffff,0,0,0,0\n8902,9,0,new,0000000000,0,0,0,0\n8902,2,0,new,0000000000,0,0,0,0\n"
     );
     Ok(())
@@ -529,8 +540,8 @@ fn a_reserved_job_is_in_every_text(rt: HostRuntime) -> Result<(), Fail> {
     )?;
     let histories = [history];
     let jobs = vec![in alloc; job(alloc, first, 1)?]?;
-    let mut keysets = KeysetList::new(alloc);
-    keysets.push(1, facts(Counter(0), Mode::Higher, true)?)?;
+    let keyset = listed(alloc, 8901, 1, "")?;
+    let tables = format!(in alloc; "[[card]]\nnumber = 8901\n{keyset}")?;
     assert_eq!(rt;
         report_text(alloc, &jobs, &histories)?.as_str(),
         "job,card,kvn,outcome,counter,note\n1,8901,1,unsettled,0000000001,-\n"
@@ -543,7 +554,7 @@ fn a_reserved_job_is_in_every_text(rt: HostRuntime) -> Result<(), Fail> {
     );
     assert_eq!(rt; packets.len(), 25 + 15 + 122 + 1);
     assert_eq!(rt;
-        cards_text(alloc, &[card(8901, keysets)], &[], &histories)?.as_str(),
+        cards_text(alloc, &plan_of(alloc, &tables)?, &histories)?.as_str(),
         "card,kvn,lane,state,last,reserved,done,refused,unsettled\n8901,1,0,open,0000000001,1,0,0,1\n"
     );
     Ok(())

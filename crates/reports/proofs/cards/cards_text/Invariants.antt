@@ -6,4 +6,4 @@ use Rattle.reports.proofs.cards.cards_text.Given as goal
 
 abbrev pub invariant-loop-card : goal.invariant-loop-card
 invariant-loop-card l =
-    string_bytes l.text ≡ cards_header ++ flat_map (card_rows (map entries_in l.histories) l.fn.later) (take l.card-index l.cards)
+    string_bytes l.text ≡ cards_header ++ flat_map (card_rows (map entries_in l.histories) l.fn.plan.later) (take l.card-index l.card-items)
