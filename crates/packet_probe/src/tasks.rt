@@ -1,6 +1,7 @@
 //! What a line of work gives.
 
-use crate::words::{counter, is_ciphered, keys, octet, octets, tar};
+use crate::pieces::{assemble, cut};
+use crate::words::{counter, digits, is_ciphered, keys, octet, octets, tar};
 use anyhow::{Result, bail, ensure};
 use ota_core::{Spi, read_spi, write_spi};
 use std::alloc::Global;
@@ -13,14 +14,6 @@ fn spi(alloc: Global, words: &mut SplitWhitespace<'_>) -> Result<Spi> {
         [first, second] => Ok(read_spi([*first, *second])?),
         _ => bail!("an SPI has two octets"),
     }
-}
-
-/// Octets in hexadecimal digits, `-` for none.
-fn digits(alloc: Global, octets: &[u8]) -> Result<String> {
-    if octets.is_empty() {
-        return Ok(String::from_str(alloc, "-")?);
-    }
-    Ok(hex::encode(alloc, octets)?)
 }
 
 fn command(alloc: Global, words: &mut SplitWhitespace<'_>) -> Result<String> {
@@ -87,6 +80,8 @@ pub fn answer(alloc: Global, task: &str, words: &mut SplitWhitespace<'_>) -> Res
         "response" => response(alloc, words),
         "open-command" => open_command(alloc, words),
         "open-response" => open_response(alloc, words),
+        "cut" => cut(alloc, words),
+        "assemble" => assemble(alloc, words),
         _ => bail!("no such task: {task:?}"),
     }
 }

@@ -51,3 +51,11 @@ pub fn is_ciphered(words: &mut SplitWhitespace<'_>) -> Result<bool> {
         word => bail!("neither plain nor ciphered: {word:?}"),
     }
 }
+
+/// Octets in hexadecimal digits, `-` for none.
+pub fn digits(alloc: Global, octets: &[u8]) -> Result<String> {
+    if octets.is_empty() {
+        return Ok(String::from_str(alloc, "-")?);
+    }
+    Ok(hex::encode(alloc, octets)?)
+}
