@@ -317,6 +317,24 @@ fn a_closed_keyset_gives_no_counter(rt: HostRuntime) -> Result<(), Fail> {
 }
 
 #[test]
+fn a_keyset_without_a_counter_is_noted(rt: HostRuntime) -> Result<(), Fail> {
+    let alloc = rt.alloc();
+    let plan = text_of(alloc, &[PLAN, "base = \"fffffffffd\"\n"])?;
+    let jobs = text_of(alloc, &[HEADER, FIRST, SECOND])?;
+    let mut setting = with_jobs(&jobs);
+    setting.plan = &plan;
+    let report = text_of(
+        alloc,
+        &[
+            REPORT_HEADER,
+            "1,8901,1,unsettled,fffffffffe,-\n2,8901,1,unsettled,-,exhausted\n",
+        ],
+    )?;
+    assert!(rt; came_to(alloc, &setting, EMPTY, None, &report, 164)?);
+    Ok(())
+}
+
+#[test]
 fn a_row_that_differs_from_its_reservation_is_refused(rt: HostRuntime) -> Result<(), Fail> {
     let alloc = rt.alloc();
     let jobs = text_of(alloc, &[HEADER, FIRST])?;
