@@ -1,0 +1,16 @@
+pub mod Packets
+pub mod World
+pub mod Sound
+pub mod Receipts
+pub mod Unforged
+pub mod LaneValue
+pub mod Adding
+pub mod Reserving
+pub mod Departing
+pub mod Sending
+pub mod Polling
+pub mod Ends
+pub mod Kept
+pub mod Opened
+pub mod Responses
+pub mod Settling

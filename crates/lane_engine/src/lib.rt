@@ -1,0 +1,17 @@
+//! A lane: a site with its journal open. Its calls reserve counters, hand packets to the port, and settle what cards
+//! answer.
+#![tactic(auto)]
+
+mod adding;
+mod answers;
+mod keysets;
+mod lanes;
+mod openings;
+mod polling;
+mod reserving;
+mod responses;
+mod sending;
+mod workspaces;
+
+pub use answers::{LaneErr, Poll};
+pub use lanes::Lane;
