@@ -3,3 +3,4 @@ pub mod FileCommand
 pub mod Part
 pub mod Run
 pub mod Step
+pub mod Wants

@@ -1,11 +1,12 @@
 -- A whole script on a card. ETSI TS 102 226, 5.2.1.
-use Rattle.std.specs.Prelude.{◌≡◌, ℕ, zero, suc, ◌==◌, if◌then◌else◌, Option, Some, None, List, [], length}
+use Rattle.std.specs.Prelude.{◌≡◌, ℕ, true, zero, suc, ◌==◌, if◌then◌else◌, Option, Some, None, List, [], length}
 use Rattle.apdu_codec.specs.Reply.{Answer}
 use Rattle.card_files.specs.Fresh as files
 use Rattle.applet_registry.specs.Commands as registry
 use Rattle.script_engine.specs.declared.card.CardState.{CardState}
 use Rattle.script_engine.specs.declared.part.Part.{Part}
 use Rattle.script_engine.specs.Step.{script_step}
+use Rattle.script_engine.specs.Wants.{step_wants}
 
 -- a new card: the files of a new card, and a registry that holds nothing and knows the numbers of the keysets
 -- with which the card was issued
@@ -54,6 +55,8 @@ runs card part script (suc count) = advanced part script (runs card part script 
 abbrev pub HasRun : CardState → Part → List ℕ → ℕ → Answer CardState → Type 0
 HasRun card part script count last = runs card part script count ≡ record { count = count; next = None; last = last }
 
--- some first commands of a script were run, and left the card so
+-- some first commands of a script were run, and left the card so; the next one may want memory
 abbrev pub HasBegun : CardState → Part → List ℕ → CardState → Type 0
-HasBegun card part script after = (count : ℕ) × ((runs card part script count).last.after ≡ after)
+HasBegun card part script after =
+    (count at : ℕ) × ((runs card part script count).last.after ≡ after) × ((runs card part script count).next ≡ Some at)
+    × (step_wants part script at ≡ true)

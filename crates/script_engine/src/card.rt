@@ -1,6 +1,6 @@
 //! What a card holds, and scripts on it.
 
-ghost use Rattle.std.specs.Prelude.{◌≡◌, ℕ, List, ◌+◌, ◌^◌, ◌<◌, ◌≤◌, ◌==◌, if◌then◌else◌, Some, None, length, option_copied, IfOk, IfSome, OnErr};
+ghost use Rattle.std.specs.Prelude.{◌≡◌, ℕ, true, List, ◌+◌, ◌^◌, ◌<◌, ◌≤◌, ◌==◌, if◌then◌else◌, Some, None, length, option_copied, IfOk, IfSome, OnErr};
 ghost use Rattle.apdu_codec.specs.Apdu.{data_len_of};
 ghost use Rattle.apdu_codec.specs.Reply.{answered};
 ghost use Rattle.apdu_codec.specs.Script.{HasCommands, IsBehind};
@@ -8,6 +8,7 @@ ghost use Rattle.script_engine.specs.AppletCommand.{applet_command_of};
 ghost use Rattle.script_engine.specs.FileCommand.{file_command_of};
 ghost use Rattle.script_engine.specs.Run.{runs};
 ghost use Rattle.script_engine.specs.Step.{applet_step, command_step, data_of, file_step, goes_on, refusal_before, script_step, LeavesTheOther};
+ghost use Rattle.script_engine.specs.Wants.{applet_wants, command_wants, file_wants, step_wants};
 
 use crate::applet_command::{APPLET_CLASS, AppletCommand};
 use crate::file_command::FileCommand;
@@ -86,7 +87,8 @@ impl CardState {
         self.files.select_mf();
     }
 
-    /// Runs the command at the place `at` of a script. A rest that is no whole command is answered 6700.
+    /// Runs the command at the place `at` of a script. A rest that is no whole command is answered 6700. Only CREATE FILE,
+    /// and on the registry INSTALL, LOAD and PUT KEY, may want memory.
     ///
     /// ETSI TS 102 226, 5.2.1; that a script ends at the first status word other than 9000 is this card's
     /// own.
@@ -99,6 +101,7 @@ impl CardState {
         ensures short { IfOk result (λ step. length step.reply.out.items ≤ 256) }
         ensures apart { LeavesTheOther part self.old self.new }
         ensures err { OnErr result (self.new ≡ self.old) }
+        ensures memory { OnErr result (step_wants part script.now at ≡ true) }
     {
         match next_apdu(script, at) {
             Next::Command(apdu, next) => {
@@ -159,6 +162,7 @@ impl CardState {
         ensures answer { IfOk result (λ reply. answered self.new reply ≡ command_step self.old part apdu.now last octets.now) }
         ensures apart { LeavesTheOther part self.old self.new }
         ensures err { OnErr result (self.new ≡ self.old) }
+        ensures memory { OnErr result (command_wants part apdu.now ≡ true) }
     {
         match part {
             Part::Files => self.run_file_command(apdu, last, octets),
@@ -172,6 +176,7 @@ impl CardState {
         ensures answer { IfOk result (λ reply. answered self.new reply ≡ file_step self.old apdu.now last octets.now (file_command_of apdu.now.ins)) }
         ensures apart { self.new.registry ≡ self.old.registry }
         ensures err { OnErr result (self.new ≡ self.old) }
+        ensures memory { OnErr result (file_wants (file_command_of apdu.now.ins) ≡ true) }
     {
         let command = match FileCommand::of(apdu.ins) {
             Some(command) => command,
@@ -194,6 +199,7 @@ impl CardState {
         ensures answer { IfOk result (λ reply. answered self.new reply ≡ applet_step self.old apdu.now last octets.now (applet_command_of apdu.now.ins)) }
         ensures apart { self.new.files ≡ self.old.files }
         ensures err { OnErr result (self.new ≡ self.old) }
+        ensures memory { OnErr result (applet_wants (applet_command_of apdu.now.ins) ≡ true) }
     {
         let command = match AppletCommand::of(apdu.ins) {
             Some(command) => command,
