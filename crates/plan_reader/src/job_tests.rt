@@ -123,12 +123,25 @@ fn each_refusal_of_the_header(rt: HostRuntime) -> Result<(), Fail> {
         "job;card;kvn;tar;script",
         "\"job,card,kvn,tar,script\"",
         "1,8902,1,b00010,00\njob,card,kvn,tar,script",
+        "\"job,card,kvn,tar,script",
+        "'job',card,kvn,tar,script",
+        "\n\u{feff}job,card,kvn,tar,script",
     ] {
         assert!(rt;
             is_refused(alloc, &plan, text.as_bytes(), 0, Column::Header),
             "at {text}"
         );
     }
+    assert!(rt;
+        is_refused(
+            alloc,
+            &plan,
+            b"job,card,kvn,tar,script\xff\n",
+            0,
+            Column::Header
+        )
+    );
+    assert!(rt; is_refused(alloc, &plan, b"\xff\xfej\x00", 0, Column::Header));
     Ok(())
 }
 
@@ -167,6 +180,13 @@ fn each_refusal_of_a_column(rt: HostRuntime) -> Result<(), Fail> {
         ("2,8902,1,b00010,000", Column::Script),
         ("2,8902,1,b00010,0x", Column::Script),
         ("2,8902,1,b00010,00 ", Column::Script),
+        ("\"2,8902,1,b00010,00\"", Column::Shape),
+        ("\"2\"\"\",8902,1,b00010,00", Column::Job),
+        ("\"2\n\",8902,1,b00010,00", Column::Job),
+        ("2,\"8902,\",1,b00010,00", Column::Card),
+        ("2,8902,\"\",b00010,00", Column::Kvn),
+        ("2,8902,1,\"b00010\"0,00", Column::Tar),
+        ("2,8902,1,b00010,\"00\r\n\"", Column::Script),
     ] {
         let text = format!(in alloc; "job,card,kvn,tar,script\n1,8902,1,b00010,00\n{row}\n3\n")?;
         assert!(rt;
@@ -174,15 +194,17 @@ fn each_refusal_of_a_column(rt: HostRuntime) -> Result<(), Fail> {
             "at {row}"
         );
     }
-    assert!(rt;
-        is_refused(
-            alloc,
-            &plan,
-            b"job,card,kvn,tar,script\n1,8902,1,b00010,\xff\xff",
-            1,
-            Column::Script
-        )
-    );
+    for (row, column) in [
+        (b"\xff,8902,1,b00010,00".as_slice(), Column::Job),
+        (b"1,\xc3\xa9,1,b00010,00".as_slice(), Column::Card),
+        (b"1,8902,\x80,b00010,00".as_slice(), Column::Kvn),
+        (b"1,8902,1,\xff\xff\xff,00".as_slice(), Column::Tar),
+        (b"1,8902,1,b00010,\xff\xff".as_slice(), Column::Script),
+    ] {
+        let mut text = String::from_str(alloc, "job,card,kvn,tar,script\n")?.into_bytes();
+        text.extend_from_slice(row)?;
+        assert!(rt; is_refused(alloc, &plan, text.as_slice(), 1, column));
+    }
     Ok(())
 }
 

@@ -122,6 +122,8 @@ fn other_forms_of_a_plan_are_read(rt: HostRuntime) -> Result<(), Fail> {
         "campaign = 0",
         "campaign = 0\ncard = []\nkeyset = []\n",
         "\u{feff}campaign = 0\r\n",
+        "campaign = 0\r\n\r\n[[card]]\r\nnumber = 1 # a card\r\n",
+        "'campaign' = 0\n\"card\" = [{ \"number\" = 1, 'rfm' = \"\"\"000000\"\"\", ram = '''b00010''' }]\n",
         "# a comment\n\"campaign\" = 0x1F\n",
         "campaign = 1_000\ncard = [{ number = 0 }, { number = 999999999999999999 }]",
         "campaign = 1\n[[card]]\nnumber = 1\nbuffer = 1\nrfm = '000000'\nram = 'FFFFFF'\n",
@@ -147,6 +149,8 @@ fn each_refusal_of_the_top(rt: HostRuntime) -> Result<(), Fail> {
         "campaign = 1\ncampaign = 1\n",
         "campaign = 9223372036854775808",
         "[[card]]\nnumber = 1\n[card]\n",
+        "campaign = 1\rcard = []\n",
+        "campaign = 1\n\u{feff}card = []\n",
     ] {
         assert!(rt;
             is_refused(alloc, text.as_bytes(), Table::Top, 0, Field::Text),
@@ -155,6 +159,25 @@ fn each_refusal_of_the_top(rt: HostRuntime) -> Result<(), Fail> {
     }
     assert!(rt; is_refused(alloc, b"campaign = 1 # \xff", Table::Top, 0, Field::Text));
     assert!(rt; is_refused(alloc, b"\x80", Table::Top, 0, Field::Text));
+    assert!(rt; is_refused(alloc, b"\xff\xfec\x00", Table::Top, 0, Field::Text));
+    assert!(rt;
+        is_refused(
+            alloc,
+            b"campaign = 1\n[[card]]\nrfm = \"\xc0\x80\"",
+            Table::Top,
+            0,
+            Field::Text
+        )
+    );
+    assert!(rt;
+        is_refused(
+            alloc,
+            b"campaign = 1 # \xed\xa0\x80",
+            Table::Top,
+            0,
+            Field::Text
+        )
+    );
     for text in [
         "campaigns = 1\n",
         "campaign = -1\nkeysets = []\n",
@@ -167,6 +190,8 @@ fn each_refusal_of_the_top(rt: HostRuntime) -> Result<(), Fail> {
     }
     for text in [
         "",
+        "\u{feff}",
+        "\r\n# nothing\n",
         "card = 1",
         "campaign = -1",
         "campaign = 4294967296",
@@ -295,6 +320,62 @@ fn each_refusal_of_a_keyset(rt: HostRuntime) -> Result<(), Fail> {
         assert!(rt;
             is_refused(alloc, text.as_bytes(), Table::Keyset, 2, field),
             "at {rest}"
+        );
+    }
+    Ok(())
+}
+
+#[test]
+fn first_of_several_faults_is_answered(rt: HostRuntime) -> Result<(), Fail> {
+    let alloc = rt.alloc();
+    for (text, table, row, field) in [
+        (
+            "x = 1\ncampaign = -1\ncard = 1\n",
+            Table::Top,
+            0,
+            Field::Unknown,
+        ),
+        ("campaign = -1\ncard = 1\n", Table::Top, 0, Field::Campaign),
+        (
+            "campaign = 1\nkeyset = 1\ncard = [{ number = 1, x = 1 }]\n",
+            Table::Card,
+            1,
+            Field::Unknown,
+        ),
+        (
+            "campaign = 1\ncard = [{ number = 1, wide = 0 }, { x = 1 }]\n",
+            Table::Card,
+            1,
+            Field::Wide,
+        ),
+        (
+            "campaign = 1\ncard = [{ number = 1 }, { number = 2, ram = 1 }]\nkeyset = [1]\n",
+            Table::Card,
+            2,
+            Field::Ram,
+        ),
+        (
+            "campaign = 1\ncard = [{ number = 1 }]\nkeyset = [{ card = 1 }, { x = 1 }]\n",
+            Table::Keyset,
+            1,
+            Field::Kvn,
+        ),
+        (
+            "campaign = 1\nkeyset = [{ card = 1, x = 1 }]\n",
+            Table::Keyset,
+            1,
+            Field::Unknown,
+        ),
+        (
+            "campaign = 1\nkeyset = [{ card = 1 }]\n",
+            Table::Keyset,
+            1,
+            Field::CardOf,
+        ),
+    ] {
+        assert!(rt;
+            is_refused(alloc, text.as_bytes(), table, row, field),
+            "at {text}"
         );
     }
     Ok(())

@@ -14,6 +14,19 @@ pub struct Plan {
     pub later: LaterList,
 }
 
+impl Plan {
+    /// The plan of campaign 0 without cards. It takes no memory.
+    pub fn empty(alloc: Global) -> Plan
+        ensures { result ≡ record { campaign = 0; cards = []; later = [] } }
+    {
+        Plan {
+            campaign: 0,
+            cards: CardList::from_cards(Vec::new(alloc)),
+            later: LaterList::new(alloc),
+        }
+    }
+}
+
 /// The cards of a plan in order. Contracts see the list of their facts.
 #[derive(Debug, Drop)]
 pub struct CardList {
@@ -41,6 +54,13 @@ impl CardList {
         ensures { result.now ≡ self.now }
     {
         self.cards.as_slice()
+    }
+
+    /// The cards themselves in order.
+    pub fn into_cards(self) -> Vec<CardFacts>
+        ensures { result.items ≡ self }
+    {
+        self.cards
     }
 }
 
