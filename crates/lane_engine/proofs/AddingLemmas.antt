@@ -1,9 +1,7 @@
 -- What a lane keeps through the addition of a batch.
-use Rattle.std.proofs.Common.{◌≡◌, ◌⊎◌, inl, inr, ℕ, ◌+◌, ◌≤◌, ◌<◌, IsTrue, Bool, false, true, Option, Some, None, List, [], ◌∷◌, ◌++◌, length, drop, reverse, All, refl, sym, ◌∙◌, ap, subst, arith, append-nil, append_assoc, length-append, ⊎_elim}
-use Rattle.std.specs.Option.{option_map}
+use Rattle.std.proofs.Common.{◌≡◌, inl, inr, ℕ, false, true, None, List, [], ◌∷◌, ◌++◌, reverse, All, refl, subst}
 use Rattle.std.specs.List.{list_any, list_all}
 use Rattle.std.proofs.lemmas.List.Elements.{All-append}
-use Rattle.disk_model.specs.Disk.{Meaning, DiskRun, image_now}
 use Rattle.ota_core.specs.History.{broken_batch}
 use Rattle.ota_core.specs.HistoryLaws.{IsLegal-batch}
 use Rattle.ota_core.specs.declared.entries.Entry.{Entry}
@@ -15,7 +13,7 @@ use Rattle.counter_journal.specs.Standing.{StandsFor}
 use Rattle.counter_journal.specs.StandingLaws.{not_unmade}
 use Rattle.site_model.specs.Port.{PortState}
 use Rattle.site_model.specs.declared.departures.Departure.{Departure}
-use Rattle.world_core.specs.Condition.{is_answered, begin_refusal, IsAllowed}
+use Rattle.world_core.specs.Condition.{is_answered, IsAllowed}
 use Rattle.world_core.specs.Effect.{world_step}
 use Rattle.world_core.specs.Run.{Runs}
 use Rattle.world_core.specs.Sound.{IsSound}
@@ -27,7 +25,7 @@ use Rattle.world_core.proofs.HistoryFacts.{packet_at-left}
 use Rattle.world_core.proofs.SoundLemmas.{IsSound-step}
 use Rattle.lane_engine.specs.Adding.{is_settlement}
 use Rattle.lane_engine.specs.Sound.{IsSoundState}
-use Rattle.lane_engine.specs.World.{world_of, IsPieceOf, AreSent}
+use Rattle.lane_engine.specs.World.{world_of, AreSent}
 
 -- pieces of reservations stay such behind a longer history
 pub sent_more : (history batch : List Entry) (departures : List Departure) (pieces : List Sent) → AreSent history departures pieces → AreSent (history ++ batch) departures pieces

@@ -1,5 +1,5 @@
 -- What a lane keeps when its port was asked, and which receipt may then be due.
-use Rattle.std.proofs.Common.{◌≡◌, ◌⊎◌, inl, inr, ℕ, ◌+◌, ◌≤◌, ◌<◌, Bool, false, true, Option, Some, None, List, [], ◌∷◌, ◌++◌, length, drop, refl, sym, ◌∙◌, ap, subst, arith, append-nil, append_assoc, length-append, ⊎_elim}
+use Rattle.std.proofs.Common.{◌≡◌, ◌⊎◌, inl, inr, ℕ, ◌+◌, ◌≤◌, ◌<◌, Some, List, [], ◌∷◌, ◌++◌, length, sym, ◌∙◌, ap, subst, arith, append-nil, append_assoc, length-append, ⊎_elim}
 use Rattle.std.proofs.lemmas.Bool.{cases_lt}
 use Rattle.std.proofs.lemmas.List.{nil_from_length}
 use Rattle.disk_model.specs.Counts.{Counts}
@@ -12,17 +12,14 @@ use Rattle.site_model.specs.Cards.{port_at, port_now}
 use Rattle.site_model.specs.Cards.{Keeps as CardsKeep}
 use Rattle.site_model.specs.Port.{PortState, IsPolling}
 use Rattle.site_model.specs.Runs.{PortRun}
-use Rattle.site_model.specs.declared.departures.Departure.{Departure}
-use Rattle.world_core.specs.Headline.{IsReserved}
 use Rattle.world_core.specs.Members.{In, Begins}
 use Rattle.world_core.specs.declared.lines.Line.{Line}
-use Rattle.world_core.specs.declared.segments.Sent.{Sent}
-use Rattle.lane_engine.specs.Kept.{Opening, KeptTold, KeptFair, IsFair, WasDue, WasGiven, IsByReceipt, AreGiven, IsSettled, added_since}
+use Rattle.lane_engine.specs.Kept.{KeptFair, IsFair, WasDue, WasGiven, IsByReceipt, AreGiven, IsSettled, added_since}
+use Rattle.lane_engine.specs.Opening.{Opening}
 use Rattle.lane_engine.specs.Receipts.{Response, due_in, message_of, past_of}
-use Rattle.lane_engine.specs.Sound.{SoundAt, SoundSince}
-use Rattle.lane_engine.specs.World.{AreSent}
+use Rattle.lane_engine.specs.Sound.{SoundSince}
 use Rattle.lane_engine.proofs.AddingLemmas.{stands_as}
-use Rattle.lane_engine.proofs.KeptLemmas.{given_before, given_after, fair_before, sound_on}
+use Rattle.lane_engine.proofs.KeptLemmas.{given_before, given_after, sound_on}
 use Rattle.lane_engine.proofs.PortLemmas.{SendsReserved, port_sound}
 
 module _ {D B C : Type 0} (told : Meaning D B C) (counts : D → Counts) (port : B → PortState) (lines : C → ℕ → List Line) (opening : Opening) where

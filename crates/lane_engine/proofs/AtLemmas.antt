@@ -1,5 +1,5 @@
 -- The packet of the reservation at one position of the history.
-use Rattle.std.proofs.Common.{◌≡◌, ◌⊎◌, inl, inr, ℕ, ◌+◌, ◌≤◌, ◌<◌, Bool, true, false, ◌&&◌, not, Option, Some, None, Result, Ok, Err, OnOk, List, [], ◌∷◌, ◌++◌, length, get_or, All, refl, sym, ◌∙◌, ap, subst, arith, append-nil}
+use Rattle.std.proofs.Common.{◌≡◌, inl, inr, ℕ, ◌≤◌, Bool, true, false, ◌&&◌, not, Option, Some, None, Result, Ok, Err, OnOk, List, [], length, All, refl, sym, ◌∙◌, ap, subst, append-nil}
 use Rattle.std.proofs.lemmas.Option.{slice_get_cases}
 use Rattle.std.specs.List.{slice_get, list_any}
 use Rattle.std.specs.Option.{option_or, option_map, option_and_then}
@@ -8,7 +8,6 @@ use Rattle.ota_core.specs.Entry.{Reservation, is_reserve_of, is_settlement_of}
 use Rattle.ota_core.specs.Questions.{Reserved, opened_facts, reserved_in, state_of}
 use Rattle.ota_core.specs.declared.entries.Entry.{Entry}
 use Rattle.ota_core.specs.declared.entries.Entry.TheVariants.{Open, Reserve, Done, Refused, Close}
-use Rattle.ota_core.specs.declared.keysets.KeysetFacts.{KeysetFacts}
 use Rattle.counter_journal.specs.EntryRanges.{IsEntry, IsEntryOf}
 use Rattle.site_model.specs.Port.{PortState}
 use Rattle.world_core.specs.Packet.{Packet, packet_at, packet_of}

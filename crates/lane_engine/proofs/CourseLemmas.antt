@@ -1,13 +1,15 @@
 -- A batch that is added, and then handed over.
-use Rattle.std.proofs.Common.{◌≡◌, ◌⊎◌, inl, inr, ℕ, ◌+◌, ◌-◌, ◌≤◌, IsTrue, Bool, false, true, Option, Some, None, Result, Ok, Err, OnOk, List, [], ◌∷◌, ◌++◌, length, drop, map, take, reverse, refl, sym, ◌∙◌, ap, subst, arith, append-nil, append_assoc, length-append}
+use Rattle.std.proofs.Common.{◌≡◌, inl, inr, ℕ, ◌+◌, ◌-◌, ◌≤◌, IsTrue, false, Option, None, Result, Ok, Err, List, ◌∷◌, ◌++◌, length, drop, map, take, reverse, refl, sym, ◌∙◌, ap, subst, arith, length-append}
 use Rattle.std.proofs.Math.Seq.{drop-append_seam}
 use Rattle.std.specs.List.{list_any}
 use Rattle.disk_model.specs.Counts.{Counts, HasRisen}
-use Rattle.disk_model.specs.Disk.{Meaning, Tells, PastStands, image_now}
-use Rattle.disk_model.specs.Runs.{past_joined}
+use Rattle.disk_model.specs.Disk.{Meaning, Tells, image_now}
+use Rattle.disk_model.specs.Runs.{at_once}
 use Rattle.ota_core.specs.History.{broken_batch}
 use Rattle.ota_core.specs.declared.entries.Entry.{Entry}
 use Rattle.counter_journal.specs.JournalReading.{JournalValue}
+use Rattle.counter_journal.specs.StandingLaws.{ready_holds}
+use Rattle.site_model.specs.Runs.{joined_site, of_disk, of_port}
 use Rattle.site_model.specs.Port.{PortState}
 use Rattle.site_model.specs.Cards.{port_now}
 use Rattle.site_model.specs.declared.departures.Departure.{Departure}
@@ -20,19 +22,20 @@ use Rattle.world_core.specs.declared.events.Event.TheVariants.{Begin, Seal}
 use Rattle.world_core.specs.declared.lines.Line.{Line}
 use Rattle.world_core.specs.declared.segments.Sent.{Sent}
 use Rattle.lane_engine.specs.Adding.{AddingAnswer, AnswerCause, IsAdded, IsAddition, IsAddingRun, LaneCause, is_settlement}
-use Rattle.lane_engine.specs.Departing.{AreFirst, AreHandedOver, HaveCardsGoneOn, IsResent, IsSending, IsSendingRun, IsUnasked, SendingEvents, SendsOnlyAdded, leaving, pieces_from}
-use Rattle.lane_engine.specs.Kept.{Opening, KeptSince, IsFair, IsLater}
-use Rattle.lane_engine.specs.LaneValue.{LaneValue, IsLane, IsSameHearing, IsSameLane}
+use Rattle.lane_engine.specs.Departing.{AreFirst, AreHandedOver, HaveCardsGoneOn, IsResent, IsSending, IsSendingRun, IsUnasked, SendingEvents, SendsOnlyAdded, leaving, pieces_from, LeavesWhole}
+use Rattle.lane_engine.specs.Kept.{KeptSince, IsFair}
+use Rattle.lane_engine.specs.Opening.{Opening}
+use Rattle.lane_engine.specs.LaneValue.{LaneValue, IsLane, IsSameHearing}
 use Rattle.lane_engine.specs.Packets.{departures_for}
-use Rattle.lane_engine.specs.Sending.{HandsOverBuilt, IsOkOrFault}
+use Rattle.lane_engine.specs.Sending.{AreHanded, HandsOverBuilt, IsOkOrFault}
 use Rattle.lane_engine.specs.Sound.{IsSoundState}
-use Rattle.lane_engine.specs.World.{world_of, cards_of, AreSent}
+use Rattle.lane_engine.specs.World.{world_of, cards_of}
 use Rattle.lane_engine.specs.declared.answers.LaneErr.{LaneErr}
 use Rattle.lane_engine.specs.declared.answers.LaneErr.TheVariants as lane_err
+use Rattle.lane_engine.proofs.AppendLemmas.{IsWithBatch}
 use Rattle.lane_engine.proofs.AddingLemmas.{may_begin, none_settles}
 use Rattle.lane_engine.proofs.KeptLemmas.{fair_before}
 use Rattle.lane_engine.proofs.LeavingLemmas.{AreReserved, from_reserved}
-use Rattle.lane_engine.proofs.RefusalLemmas.{none_asked, none_handed}
 use Rattle.lane_engine.proofs.SentLemmas.{hands_all, hands_first, hands_run, hands_run_all, hands_unasked}
 
 -- ---- one call behind another
@@ -47,24 +50,8 @@ same_then old mid new first second = record {
     moment = second.settings.moment ∙ first.settings.moment;
     name = second.settings.name ∙ first.settings.name;
     end = second.settings.end ∙ first.settings.end;
+    opened = second.settings.opened ∙ first.settings.opened;
   };
-}
-
-pub later_then : {D B C : Type 0} (told : Meaning D B C) (counts : D → Counts) (port : B → PortState) (lines : C → ℕ → List Line) (old mid new : LaneValue D)
-    → IsLater told counts port lines old mid → IsLater told counts port lines mid new → IsLater told counts port lines old new
-later_then told counts port lines old mid new first second = record {
-  lane = second.lane ∙ first.lane;
-  lanes = second.lanes ∙ first.lanes;
-  entries = (
-    first.entries.0 ++ second.entries.0,
-    second.entries.1 ∙ ap (λ (l : List Entry). l ++ second.entries.0) first.entries.1 ∙ append_assoc old.journal.entries first.entries.0 second.entries.0,
-  );
-  faults = (let one = first.faults in let two = second.faults in omega (arith, one, two));
-  wants = (let one = first.wants in let two = second.wants in omega (arith, one, two));
-  tells = second.tells ∙ first.tells;
-  past = λ tells. past_joined told old.site mid.site new.site (first.past tells) (second.past (subst IsTrue (sym first.tells) tells));
-  polls = λ tells. (let one = first.polls tells in let two = second.polls (subst IsTrue (sym first.tells) tells) in omega (arith, one, two));
-  stale = λ is. second.stale (first.stale is);
 }
 
 abbrev Done : Type 0
@@ -85,6 +72,9 @@ ok_or_fault P done stopped (Err lane_err.NotReserved) is = absurd is
 
 pub journal_of : {D : Type 0} (old new : LaneValue D) (result : Done) → IsOkOrFault result → IsResent old new result → new.journal ≡ old.journal
 journal_of old new result is resent = ok_or_fault (λ r. IsResent old new r → new.journal ≡ old.journal) (λ r. r.0) (λ named r. r.0) result is resent
+
+pub lost_of : {D : Type 0} (old new : LaneValue D) (result : Done) → IsOkOrFault result → IsResent old new result → new.lost ≡ old.lost
+lost_of old new result is resent = ok_or_fault (λ r. IsResent old new r → new.lost ≡ old.lost) (λ r. r.3) (λ named r. r.3) result is resent
 
 pub hearing_of : {D : Type 0} (old new : LaneValue D) (result : Done) → IsOkOrFault result → IsResent old new result → IsSameHearing old new
 hearing_of old new result is resent = ok_or_fault (λ r. IsResent old new r → IsSameHearing old new) (λ r. r.2) (λ named r. r.2) result is resent
@@ -199,8 +189,8 @@ module _ {D B C : Type 0} (told : Meaning D B C) (counts : D → Counts) (port :
 
   pub course_added : IsSending old new batch result
   course_added = ok_or_fault (λ r. IsResent mid new r → IsSending old new batch r)
-      (λ r. record { entries = entries_new; is_stale = r.1; rest = same_then old mid new added.rest r.2 })
-      (λ named r. (r.1, same_then old mid new added.rest r.2, inr entries_new)) result answer resent
+      (λ r. record { entries = entries_new; is_stale = r.1; lost = r.3 ∙ added.lost; rest = same_then old mid new added.rest r.2 })
+      (λ named r. (r.1, same_then old mid new added.rest r.2, inr (entries_new, r.3 ∙ added.lost))) result answer resent
 
   pub course_sent : Tells told old.site → AreHandedOver all (port_now told port lines old.site) (port_now told port lines new.site) result
   course_sent tells = ok_or_fault
@@ -212,6 +202,17 @@ module _ {D B C : Type 0} (told : Meaning D B C) (counts : D → Counts) (port :
       subst (λ (p : PortState). AreFirst all p (port_now told port lines new.site)) (stands tells)
       (hands_first told port lines mid.journal.entries mid.site new.site all pieces_all (Err (lane_err.SiteFault named)) h course_reserved))
       result answer (handed tells)
+
+  pub course_whole : Tells told old.site → LeavesWhole told port lines old new batch
+  course_whole tells =
+      let run = (first tells).moments live in
+      let built = handed tells in
+      joined_site told old.site mid.site new.site (λ image beside choice. IsWithBatch old.journal.lane old.journal.lanes old.journal.entries batch image)
+      (of_disk told old.site mid.site (IsWithBatch old.journal.lane old.journal.lanes old.journal.entries batch) (λ image beside choice. IsWithBatch old.journal.lane old.journal.lanes old.journal.entries batch image) run
+      (λ image choice left chosen. left))
+      (of_port told mid.site new.site (λ beside. AreHanded built.built (port_now told port lines mid.site) (port beside))
+      (λ image beside choice. IsWithBatch old.journal.lane old.journal.lanes old.journal.entries batch image) built.run.moments
+      (λ k image choice low high now beside chosen. run.each (told.clock mid.site) image run.past.later (omega arith) now))
 
   pub course_only_added : SendsOnlyAdded told port lines old new
   course_only_added same =
@@ -261,6 +262,21 @@ module _ {D B C : Type 0} (told : Meaning D B C) (counts : D → Counts) (port :
             (stands tells) then.2,
       )
 
+-- ---- a batch alone
+
+module _ {D B C : Type 0} (told : Meaning D B C) (port : B → PortState) (lines : C → ℕ → List Line) where
+  pub added_whole : (old new : LaneValue D) (batch : List Entry) (result : Done) → IsAddingRun told port lines old new batch result → old.is_stale ≡ false → LeavesWhole told port lines old new batch
+  added_whole old new batch result run live =
+      of_disk told old.site new.site (IsWithBatch old.journal.lane old.journal.lanes old.journal.entries batch) (λ image beside choice. IsWithBatch old.journal.lane old.journal.lanes old.journal.entries batch image)
+      (run.moments live) (λ image choice left chosen. left)
+
+  -- nothing was done
+  pub idle_whole : (lane : LaneValue D) (batch : List Entry) → IsLane told lane → lane.is_stale ≡ false → Tells told lane.site → LeavesWhole told port lines lane lane batch
+  idle_whole lane batch of live tells =
+      of_disk told lane.site lane.site (IsWithBatch lane.journal.lane lane.journal.lanes lane.journal.entries batch) (λ image beside choice. IsWithBatch lane.journal.lane lane.journal.lanes lane.journal.entries batch image)
+      (at_once told lane.site (IsWithBatch lane.journal.lane lane.journal.lanes lane.journal.entries batch) (λ image at. inl (ready_holds told lane.site lane.journal (of.ready live tells) image at)))
+      (λ image choice left chosen. left)
+
 -- ---- a batch that wasn't added
 
 module _ {D B C : Type 0} (told : Meaning D B C) (counts : D → Counts) (port : B → PortState) (lines : C → ℕ → List Line) (old new : LaneValue D) (batch : List Entry) (error : LaneErr)
@@ -269,7 +285,7 @@ module _ {D B C : Type 0} (told : Meaning D B C) (counts : D → Counts) (port :
   failed_sending = by_case error added
     where
       by_case : (e : LaneErr) → IsAddition old new batch (Err e) → IsSending old new batch (Err e)
-      by_case (lane_err.SiteFault named) stop = (stop.is_stale, stop.rest, inl stop.entries)
+      by_case (lane_err.SiteFault named) stop = (stop.is_stale, stop.rest, inl (stop.entries, stop.lost))
       by_case lane_err.Memory same = same
       by_case lane_err.Stale same = same
       by_case (lane_err.Full long need) same = same
@@ -279,16 +295,16 @@ module _ {D B C : Type 0} (told : Meaning D B C) (counts : D → Counts) (port :
       by_case (lane_err.AlreadyReserved counter) same = same
       by_case lane_err.NotReserved same = same
 
-  pub failed_events : SendingEvents told port lines old new batch (Err error)
-  failed_events = by_case error added
+  pub failed_events : IsAddingRun told port lines old new batch (Err error) → SendingEvents told port lines old new batch (Err error)
+  failed_events run = by_case error added run
     where
-      by_case : (e : LaneErr) → IsAddition old new batch (Err e) → SendingEvents told port lines old new batch (Err e)
-      by_case (lane_err.SiteFault named) stop = inl stop.entries
-      by_case lane_err.Memory same = same
-      by_case lane_err.Stale same = same
-      by_case (lane_err.Full long need) same = same
-      by_case lane_err.Closed same = same
-      by_case lane_err.Exhausted same = same
-      by_case lane_err.UnknownKeyset same = same
-      by_case (lane_err.AlreadyReserved counter) same = same
-      by_case lane_err.NotReserved same = same
+      by_case : (e : LaneErr) → IsAddition old new batch (Err e) → IsAddingRun told port lines old new batch (Err e) → SendingEvents told port lines old new batch (Err e)
+      by_case (lane_err.SiteFault named) stop begun = inl begun
+      by_case lane_err.Memory same begun = same
+      by_case lane_err.Stale same begun = same
+      by_case (lane_err.Full long need) same begun = same
+      by_case lane_err.Closed same begun = same
+      by_case lane_err.Exhausted same begun = same
+      by_case lane_err.UnknownKeyset same begun = same
+      by_case (lane_err.AlreadyReserved counter) same begun = same
+      by_case lane_err.NotReserved same begun = same

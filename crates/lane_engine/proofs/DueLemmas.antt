@@ -1,20 +1,18 @@
 -- What holds of a receipt that is due, and of the entry that settles it.
-use Rattle.std.proofs.Common.{◌≡◌, ◌⊎◌, inl, inr, ℕ, ◌+◌, ◌≤◌, ◌<◌, ◌%◌, ◌==◌, ◌&&◌, ◌||◌, nat_le, nat_lt, Bool, true, false, not, if◌then◌else◌, is_some, Option, Some, None, List, [], ◌∷◌, ◌++◌, length, reverse, slice_get, refl, sym, ◌∙◌, ap, subst, arith, All, append-nil, length-append}
-use Rattle.std.specs.Option.{option_or, option_and_then, option_map}
-use Rattle.std.specs.List.{list_any, list_all, range_with_len}
+use Rattle.std.proofs.Common.{◌≡◌, ◌⊎◌, inl, inr, ℕ, ◌+◌, ◌≤◌, ◌%◌, ◌==◌, ◌||◌, nat_le, Bool, true, false, not, if◌then◌else◌, is_some, Option, Some, None, List, [], ◌∷◌, ◌++◌, length, reverse, refl, sym, ◌∙◌, ap, subst, arith, All, append-nil, length-append}
+use Rattle.std.specs.Option.{option_or}
+use Rattle.std.specs.List.{list_any, range_with_len}
 use Rattle.std.specs.Result.{result_ok}
 use Rattle.std.proofs.lemmas.Bool.{and_parts}
 use Rattle.std.proofs.lemmas.Bool.Decides.{nat_tests}
 use Rattle.ota_core.specs.Keyset.{Keyset}
-use Rattle.ota_core.specs.Entry.{Reservation, facts_in, is_open_of, is_close_of, is_reserve_of, is_settlement_of}
+use Rattle.ota_core.specs.Entry.{is_open_of, is_close_of, is_reserve_of, is_settlement_of}
 use Rattle.ota_core.specs.History.{first_some, broken, broken_settlement, broken_status, broken_in_use}
 use Rattle.ota_core.specs.HistoryLaws.{broken-none}
 use Rattle.ota_core.specs.Questions.{opened_facts, state_of, last_moment}
 use Rattle.ota_core.specs.declared.cards.CardId.{CardId}
 use Rattle.ota_core.specs.declared.entries.Entry.{Entry}
 use Rattle.ota_core.specs.declared.entries.Entry.TheVariants as entry
-use Rattle.ota_core.specs.declared.keysets.KeysetFacts.{KeysetFacts}
-use Rattle.ota_core.specs.declared.questions.KeysetState.{KeysetState}
 use Rattle.ota_core.specs.declared.questions.KeysetState.TheVariants as state
 use Rattle.keyset_book.proofs.PastLemmas.{opened-facts}
 use Rattle.response_packet.specs.Opened.{opens, unsecured_in}
@@ -22,7 +20,6 @@ use Rattle.response_packet.specs.Response.{settles}
 use Rattle.response_packet.specs.declared.answers.Answer.{Answer}
 use Rattle.sms_segments.specs.declared.assembling.Push.{Push}
 use Rattle.sms_segments.specs.declared.assembling.Push.TheVariants as push
-use Rattle.world_core.specs.Members.{In}
 use Rattle.world_core.specs.MemberLaws.{In-reverse, list_any-In, list_any-from_In, and_then-some, map-some}
 use Rattle.std.proofs.lemmas.List.Elements.{All-cons}
 use Rattle.gate_log.specs.Log.{four}
@@ -37,7 +34,6 @@ use Rattle.lane_engine.specs.Packets.{keys_of}
 use Rattle.lane_engine.specs.Polling.{LONGEST_SETTLEMENT, settlements}
 use Rattle.lane_engine.proofs.AddingLemmas.{history_more}
 use Rattle.lane_engine.specs.Receipts.{LONGEST_DATA, Response, place_of, response_at, response_of, response_by, response_under, is_receipt, is_closed, answer_to_receipt, answer_to_response, answer_to_packet, answer_to_push, due_by, settlement_of}
-use Rattle.lane_engine.specs.declared.answers.Poll.{Poll}
 use Rattle.lane_engine.specs.declared.answers.Poll.TheVariants as poll
 use Rattle.lane_engine.proofs.KeysetLemmas.{open_in_use, open_of_lane, moment_after}
 

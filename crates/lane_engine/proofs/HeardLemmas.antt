@@ -1,5 +1,5 @@
 -- What a lane keeps when the message that its port gave was taken.
-use Rattle.std.proofs.Common.{◌≡◌, ◌⊎◌, inl, inr, ℕ, ◌+◌, ◌≤◌, ◌<◌, Bool, false, true, Option, Some, None, List, [], ◌∷◌, ◌++◌, length, drop, map, reverse, All, refl, sym, ◌∙◌, ap, subst, arith, append-nil, append_assoc, length-append, ⊎_elim}
+use Rattle.std.proofs.Common.{◌≡◌, inl, inr, ℕ, ◌≤◌, Option, Some, None, List, [], ◌∷◌, ◌++◌, length, drop, map, reverse, refl, sym, ◌∙◌, ap, subst, arith, append-nil, ⊎_elim}
 use Rattle.std.proofs.lemmas.List.{append_cancel_left, drop-append-le, map-append, reverse-append}
 use Rattle.disk_model.specs.Counts.{Counts}
 use Rattle.disk_model.specs.Disk.{Meaning, DiskRun, image_now}
@@ -13,13 +13,12 @@ use Rattle.counter_journal.specs.JournalReading.{Holds}
 use Rattle.site_model.specs.Cards.{port_at, port_now}
 use Rattle.site_model.specs.Port.{PortState}
 use Rattle.sms_segments.specs.Assembled.{OfCard, answer_to, assembled, packet_in}
-use Rattle.sms_segments.specs.declared.assembling.Push.{Push}
 use Rattle.sms_segments.specs.declared.assembling.Push.TheVariants as push
 use Rattle.world_core.specs.Members.{In}
 use Rattle.world_core.specs.MemberLaws.{In-left, In-right, In-cases}
 use Rattle.world_core.specs.declared.lines.Line.{Line}
-use Rattle.lane_engine.specs.Adding.{is_settlement}
-use Rattle.lane_engine.specs.Kept.{Opening, KeptFair, IsFair, WasDue, WasGiven, IsByReceipt, AreGiven, AreRisen, IsSettled, added_since}
+use Rattle.lane_engine.specs.Kept.{KeptFair, IsFair, WasDue, WasGiven, IsByReceipt, AreGiven, AreRisen, IsSettled}
+use Rattle.lane_engine.specs.Opening.{Opening}
 use Rattle.lane_engine.specs.Polling.{settlements}
 use Rattle.lane_engine.specs.Receipts.{RESPONSE, Response, due_in, message_of, past_of, response_at, settlement_of}
 use Rattle.lane_engine.specs.Sound.{IsSoundState}

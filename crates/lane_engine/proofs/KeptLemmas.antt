@@ -1,31 +1,30 @@
 -- What a lane keeps through a call that adds a batch.
-use Rattle.std.proofs.Common.{◌≡◌, ◌⊎◌, inl, inr, ℕ, ◌+◌, ◌≤◌, ◌<◌, IsTrue, Bool, false, true, Option, Some, None, List, [], ◌∷◌, ◌++◌, length, drop, reverse, All, refl, sym, ◌∙◌, ap, subst, arith, append-nil, append_assoc, length-append, ⊎_elim}
-use Rattle.std.specs.List.{list_any, list_all}
+use Rattle.std.proofs.Common.{◌≡◌, inl, inr, ℕ, ◌≤◌, Bool, false, true, Some, List, [], ◌∷◌, ◌++◌, length, drop, refl, sym, ◌∙◌, ap, subst, arith, ⊎_elim}
+use Rattle.std.specs.List.{list_any}
 use Rattle.std.proofs.lemmas.Bool.{cases_lt}
 use Rattle.std.proofs.lemmas.List.{drop-append-le}
 use Rattle.disk_model.specs.Counts.{Counts}
-use Rattle.disk_model.specs.Disk.{Meaning, Tells, DiskRun, PastStands, image_now}
+use Rattle.disk_model.specs.Disk.{Meaning, Tells, DiskRun, PastStands}
 use Rattle.ota_core.specs.Entry.{facts_in}
 use Rattle.ota_core.specs.Questions.{opened_facts}
 use Rattle.ota_core.specs.declared.cards.CardId.{CardId}
 use Rattle.ota_core.specs.declared.entries.Entry.{Entry}
-use Rattle.counter_journal.specs.JournalReading.{Holds}
-use Rattle.counter_journal.specs.Standing.{StandsFor}
-use Rattle.sms_segments.specs.Kept.{Keeps, Pile}
+use Rattle.sms_segments.specs.Kept.{Pile}
 use Rattle.site_model.specs.Port.{PortState}
-use Rattle.site_model.specs.Cards.{port_at, port_now, HasChoice}
+use Rattle.site_model.specs.Cards.{port_at, port_now}
 use Rattle.world_core.specs.Members.{In}
 use Rattle.world_core.specs.MemberLaws.{In-left, In-cases, list_any-from_In, first_some-left, and_then-some}
 use Rattle.world_core.specs.declared.lines.Line.{Line}
 use Rattle.lane_engine.specs.Adding.{is_settlement}
-use Rattle.lane_engine.specs.Kept.{Opening, KeptSince, KeptTold, KeptFair, IsFair, WasDue, WasGiven, AreGiven, AreRisen, IsSettled, added_since}
+use Rattle.lane_engine.specs.Kept.{KeptSince, KeptTold, KeptFair, IsFair, WasDue, WasGiven, AreGiven, AreRisen, IsSettled, added_since}
+use Rattle.lane_engine.specs.Opening.{Opening}
 use Rattle.lane_engine.specs.LaneValue.{LaneValue, IsSameLane}
 use Rattle.lane_engine.specs.Receipts.{Response, response_at, response_under, settlement_of}
 use Rattle.lane_engine.specs.Sound.{IsSoundState, SoundAt, SoundSince}
-use Rattle.lane_engine.specs.Unforged.{UnforgedSince, IsBrought, made_as}
+use Rattle.lane_engine.specs.Unforged.{IsBrought, made_as}
 use Rattle.lane_engine.proofs.Moments.{port_still}
 
--- what a lane keeps depends on its site, its history, whether it is stale, and the pieces that it keeps
+-- what a lane keeps depends on its site, its history, what it lost, whether it is stale, and the pieces that it keeps
 pub kept_same : {D B C : Type 0} (told : Meaning D B C) (counts : D → Counts) (port : B → PortState) (lines : C → ℕ → List Line) (opening : Opening) (old new : LaneValue D)
     → IsSameLane old new → KeptSince told counts port lines opening old → KeptSince told counts port lines opening new
 kept_same {D = D} told counts port lines opening old new same kept =
@@ -37,11 +36,12 @@ kept_same {D = D} told counts port lines opening old new same kept =
       faults = subst (λ (d : D). opening.counts.faults ≤ (counts d).faults) (sym same.site) kept.faults;
       wants = subst (λ (d : D). opening.counts.wants ≤ (counts d).wants) (sym same.site) kept.wants;
       where_told = λ tells.
-          subst (λ (d : D). KeptTold told counts port lines opening d new.journal.entries new.is_stale new.heard.pieces) (sym same.site)
-          (subst (λ (l : List Entry). KeptTold told counts port lines opening old.site l new.is_stale new.heard.pieces) (sym entries)
-          (subst (λ (b : Bool). KeptTold told counts port lines opening old.site old.journal.entries b new.heard.pieces) (sym same.is_stale)
-          (subst (λ (p : Pile). KeptTold told counts port lines opening old.site old.journal.entries old.is_stale p) (sym same.rest.pieces)
-          (kept.where_told (subst (λ (d : D). Tells told d) same.site tells)))));
+          subst (λ (d : D). KeptTold told counts port lines opening d new.journal.entries new.lost new.is_stale new.heard.pieces) (sym same.site)
+          (subst (λ (l : List Entry). KeptTold told counts port lines opening old.site l new.lost new.is_stale new.heard.pieces) (sym entries)
+          (subst (λ (l : List Entry). KeptTold told counts port lines opening old.site old.journal.entries l new.is_stale new.heard.pieces) (sym same.lost)
+          (subst (λ (b : Bool). KeptTold told counts port lines opening old.site old.journal.entries old.lost b new.heard.pieces) (sym same.is_stale)
+          (subst (λ (p : Pile). KeptTold told counts port lines opening old.site old.journal.entries old.lost old.is_stale p) (sym same.rest.pieces)
+          (kept.where_told (subst (λ (d : D). Tells told d) same.site tells))))));
     }
 
 -- an entry of the history opens the same keysets in a longer one

@@ -1,23 +1,20 @@
 -- Opens and Closes that a lane may add.
-use Rattle.std.proofs.Common.{◌≡◌, ◌⊎◌, inl, inr, ℕ, ◌+◌, ◌≤◌, ◌<◌, ◌%◌, suc, nat_le, max, IsTrue, Bool, false, true, not, if◌then◌else◌, Option, Some, None, Result, Ok, Err, List, [], ◌∷◌, ◌++◌, length, take, get_or, reverse, All, refl, sym, ◌∙◌, ap, subst, arith}
+use Rattle.std.proofs.Common.{◌≡◌, inl, inr, ℕ, ◌+◌, ◌≤◌, ◌<◌, ◌%◌, suc, nat_le, Bool, false, true, not, if◌then◌else◌, None, Result, Ok, Err, List, [], ◌∷◌, ◌++◌, length, take, get_or, reverse, All, refl, sym, ◌∙◌, ap, subst, arith}
 use Rattle.std.proofs.Math.Seq.{take-suc}
 use Rattle.std.specs.Result.{IsErr, IsErrAnd}
-use Rattle.std.specs.Option.{option_or}
 use Rattle.std.specs.List.{list_any}
 use Rattle.std.proofs.lemmas.Grind.{common_steps}
 use Rattle.std.proofs.lemmas.Bool.Decides.{nat_tests}
 use Rattle.std.proofs.lemmas.List.Elements.{All-cons}
 use Rattle.disk_model.specs.Disk.{Meaning, Tells}
 use Rattle.disk_model.specs.Runs.{at_once}
-use Rattle.ota_core.specs.Keyset.{Keyset, is_same_keyset}
+use Rattle.ota_core.specs.Keyset.{Keyset}
 use Rattle.ota_core.specs.Entry.{moment_of, keyset_of, is_open_of, is_close_of}
-use Rattle.ota_core.specs.History.{unless, broken_in_use, broken_moment, broken_batch}
+use Rattle.ota_core.specs.History.{broken_in_use, broken_moment, broken_batch}
 use Rattle.ota_core.specs.Questions.{state_of, last_moment}
 use Rattle.ota_core.specs.declared.entries.Entry.{Entry}
 use Rattle.ota_core.specs.declared.entries.Entry.TheVariants.{Open, Reserve, Done, Refused, Close}
-use Rattle.ota_core.specs.declared.entries.Illegal.{Illegal}
 use Rattle.ota_core.specs.declared.keysets.KeysetFacts.{KeysetFacts}
-use Rattle.ota_core.specs.declared.questions.KeysetState.{KeysetState}
 use Rattle.ota_core.specs.declared.questions.KeysetState.TheVariants as state
 use Rattle.counter_journal.specs.EntryRanges.{IsEntryOf, IsHistory, IsOfLane}
 use Rattle.counter_journal.specs.JournalLaws.{All-first, All-rest, All-none}

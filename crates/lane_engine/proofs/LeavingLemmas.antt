@@ -1,27 +1,25 @@
 -- The pieces of packets of reservations, as events and as what was handed over.
-use Rattle.std.proofs.Common.{◌≡◌, ◌⊎◌, inl, inr, ℕ, ◌+◌, ◌≤◌, ◌<◌, zero, suc, nat_le, Bool, true, false, ◌&&◌, None, Some, Option, Ok, List, [], ◌∷◌, ◌++◌, length, map, take, refl, sym, ◌∙◌, ap, subst, arith, append-nil, append_assoc}
+use Rattle.std.proofs.Common.{◌≡◌, inl, inr, ℕ, ◌+◌, ◌≤◌, ◌<◌, zero, suc, nat_le, true, None, Some, Option, List, [], ◌∷◌, ◌++◌, map, refl, sym, ap, subst, arith, append-nil, append_assoc}
 use Rattle.std.specs.Option.{option_map, option_to_list}
-use Rattle.std.specs.List.{flat_map, range_with_len}
-use Rattle.std.proofs.lemmas.Grind.{common_steps}
+use Rattle.std.specs.List.{range_with_len}
 use Rattle.std.proofs.lemmas.Bool.Decides.{nat_tests}
 use Rattle.ota_core.specs.declared.cards.CardId.{CardId}
 use Rattle.ota_core.specs.declared.entries.Entry.{Entry}
 use Rattle.site_model.specs.Port.{PortState}
 use Rattle.site_model.specs.declared.departures.Departure.{Departure}
 use Rattle.world_core.specs.Condition.{IsAllowed}
-use Rattle.world_core.specs.Effect.{piece_of, world_step}
+use Rattle.world_core.specs.Effect.{piece_of}
 use Rattle.world_core.specs.Headline.{IsReserved}
 use Rattle.world_core.specs.MemberLaws.{In-left, In-from_flat_map}
 use Rattle.world_core.specs.Members.{In}
 use Rattle.world_core.specs.Packet.{Packet, packet_at, pieces_of}
 use Rattle.world_core.specs.Run.{Runs}
-use Rattle.world_core.specs.declared.events.Event.TheVariants.{Leave}
 use Rattle.world_core.specs.declared.lines.Line.{Line}
 use Rattle.world_core.specs.declared.segments.Sent.{Sent}
 use Rattle.lane_engine.specs.Departing.{leaving, pieces_at, pieces_from, pieces_if}
-use Rattle.lane_engine.specs.Packets.{departure_at, departures_if, departures_of}
+use Rattle.lane_engine.specs.Packets.{departure_at, departures_of}
 use Rattle.lane_engine.specs.Sending.{IsCarried}
-use Rattle.lane_engine.specs.World.{world_of, IsPieceOf, AreSent}
+use Rattle.lane_engine.specs.World.{world_of, AreSent}
 
 -- ---- each piece is of a reservation
 

@@ -2,6 +2,7 @@ pub mod Moments
 pub mod OpeningLemmas
 pub mod KeptLemmas
 pub mod AddingLemmas
+pub mod LeftLemmas
 pub mod AppendLemmas
 pub mod KeysetLemmas
 pub mod OpenLemmas
@@ -26,3 +27,4 @@ pub mod ResponseLemmas
 pub mod PollRunLemmas
 pub mod PollCallLemmas
 pub mod TakenLemmas
+pub mod KeepingLemmas

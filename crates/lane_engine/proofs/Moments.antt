@@ -1,12 +1,12 @@
 -- What stands at the moments of a disk's call, as the lane sees it.
-use Rattle.std.proofs.Common.{◌≡◌, ◌⊎◌, ℕ, ◌+◌, ◌≤◌, zero, suc, List, [], ◌∷◌, ◌++◌, length, refl, sym, ◌∙◌, ap, subst, arith, append-nil, append_assoc, length-append}
-use Rattle.disk_model.specs.Disk.{Meaning, DiskRun, image_now}
+use Rattle.std.proofs.Common.{◌≡◌, ℕ, ◌+◌, ◌≤◌, List, [], ◌∷◌, ◌++◌, length, ◌∙◌, ap, arith, length-append}
+use Rattle.disk_model.specs.Disk.{Meaning, DiskRun}
 use Rattle.ota_core.specs.declared.entries.Entry.{Entry}
 use Rattle.counter_journal.specs.Standing.{StandsFor}
 use Rattle.site_model.specs.Port.{PortState}
 use Rattle.site_model.specs.Cards.{port_at, port_now}
 use Rattle.world_core.specs.declared.lines.Line.{Line}
-use Rattle.lane_engine.specs.Sound.{IsSoundState, SoundAt}
+use Rattle.lane_engine.specs.Sound.{IsSoundState}
 
 -- a state is sound with any image that stands for the same histories
 pub state_again : (lane lanes : ℕ) (before image : List ℕ) (port : PortState) (chosen : ℕ → List Line) → IsSoundState lane lanes before port chosen

@@ -1,5 +1,5 @@
 -- The Opens that a lane adds are a batch that may follow.
-use Rattle.std.proofs.Common.{◌≡◌, ◌⊎◌, inl, inr, ℕ, ◌+◌, ◌≤◌, ◌<◌, ◌%◌, zero, suc, nat_le, max, Bool, false, true, not, ◌||◌, if◌then◌else◌, Option, Some, None, List, [], ◌∷◌, ◌++◌, length, reverse, All, refl, sym, ◌∙◌, ap, subst, arith, ◌==◌}
+use Rattle.std.proofs.Common.{◌≡◌, ℕ, ◌≤◌, ◌%◌, suc, Bool, false, true, ◌||◌, None, List, [], ◌∷◌, length, All, refl, ◌∙◌, arith, ◌==◌}
 use Rattle.std.specs.List.{list_any}
 use Rattle.std.proofs.lemmas.Grind.{common_steps}
 use Rattle.std.proofs.lemmas.Bool.Decides.{nat_tests}
@@ -101,6 +101,14 @@ module _ (by moment : ℕ) (past : List Entry) where
   pub opens_of_lane : (lane lanes : ℕ) (keysets : List (Keyset × KeysetFacts)) → All (λ (keyset : Keyset × KeysetFacts). keyset.0.card.0 % lanes ≡ lane) keysets
       → All (IsOfLane lane lanes) (opens_of by moment past keysets)
   opens_of_lane lane lanes keysets all = opens_all (IsOfLane lane lanes) keysets all
+
+-- a list whose length isn't 0 has some
+pub some_items : (items : List Entry) (len : ℕ) → length items ≡ len → false ≡ (len == 0) → items ≡ [] → ⊥
+some_items [] len long test none = by_length len long test
+  where
+    by_length : (m : ℕ) → 0 ≡ m → false ≡ (m == 0) → ⊥
+    by_length m is test = grind (arith, nat_tests, is, test)
+some_items (entry ∷ items) len long test none = cc
 
 -- a list whose length is tested to be 0 has no elements
 pub no_items : (items : List Entry) (len : ℕ) → length items ≡ len → true ≡ (len == 0) → items ≡ []

@@ -1,11 +1,9 @@
 -- The clauses of a poll.
-use Rattle.std.proofs.Common.{◌≡◌, ◌⊎◌, inl, inr, ℕ, ◌+◌, ◌≤◌, ◌<◌, max, IsTrue, Bool, false, true, Option, Some, None, Result, Ok, Err, IfOk, List, [], ◌∷◌, ◌++◌, length, map, drop, reverse, refl, sym, ◌∙◌, ap, subst, arith, append-nil, append_assoc}
-use Rattle.std.proofs.lemmas.List.{append_cancel_left}
+use Rattle.std.proofs.Common.{◌≡◌, ◌⊎◌, inl, inr, ℕ, ◌+◌, ◌≤◌, IsTrue, Bool, false, true, Result, Ok, Err, IfOk, List, [], ◌∷◌, ◌++◌, refl, sym, ◌∙◌, ap, subst, arith, append-nil, length}
 use Rattle.disk_model.specs.Counts.{Counts, HasRisen}
-use Rattle.disk_model.specs.Disk.{Meaning, Tells, DiskRun, PastStands, image_now}
-use Rattle.disk_model.specs.Runs.{past_joined}
+use Rattle.disk_model.specs.Disk.{Meaning, Tells, PastStands, image_now}
+use Rattle.disk_model.specs.Runs.{past_at_once, past_joined}
 use Rattle.gate_log.specs.Opening.{LIMIT}
-use Rattle.ota_core.specs.Questions.{last_moment}
 use Rattle.ota_core.specs.declared.cards.CardId.{CardId}
 use Rattle.ota_core.specs.declared.entries.Entry.{Entry}
 use Rattle.site_model.specs.Cards.{HasChoice, port_at, port_now}
@@ -13,39 +11,37 @@ use Rattle.site_model.specs.Causes.{empty_polls}
 use Rattle.site_model.specs.Port.{PortState, IsPolling}
 use Rattle.site_model.specs.declared.site_faults.SiteFault.{SiteFault}
 use Rattle.site_model.specs.declared.site_faults.SiteFault.TheVariants as fault
-use Rattle.sms_segments.specs.Assembled.{OfCard, answer_to}
-use Rattle.sms_segments.specs.Kept.{Keeps, kept_in}
+use Rattle.sms_segments.specs.Assembled.{OfCard}
+use Rattle.sms_segments.specs.Kept.{Keeps}
 use Rattle.sms_segments.specs.declared.assembling.Push.{Push}
-use Rattle.world_core.specs.Members.{In}
-use Rattle.world_core.specs.Run.{Runs}
-use Rattle.world_core.specs.Sound.{IsSound, CardsWentOn}
+use Rattle.world_core.specs.Sound.{CardsWentOn}
 use Rattle.world_core.specs.declared.lines.Line.{Line}
 use Rattle.world_core.specs.declared.segments.Sent.{Sent}
 use Rattle.lane_engine.specs.Adding.{moment_for, SameFaults, AnswerCause, LaneCause}
 use Rattle.lane_engine.specs.Departing.{HaveCardsGoneOn}
-use Rattle.lane_engine.specs.Kept.{Opening, KeptSince, IsFair, IsLater}
-use Rattle.lane_engine.specs.LaneValue.{LaneValue, IsLane, IsSameSettings}
-use Rattle.lane_engine.specs.Polling.{LONGEST_SETTLEMENT, PollingAnswer, CountsNothing, GrewBy, IsAnswered, IsAsked, IsPolled, IsPollingRun, IsSameBut, IsUnpolled, KeepsSame, PollingEvents, PortPolled, settlements, settling_events, giving}
-use Rattle.lane_engine.specs.Receipts.{RESPONSE, Response, answer_to_message, answer_to_push, due_by, due_in, message_of, past_of, response_by, response_in}
+use Rattle.lane_engine.specs.Kept.{KeptSince, IsFair, IsLater}
+use Rattle.lane_engine.specs.Opening.{Opening}
+use Rattle.lane_engine.specs.LaneValue.{LaneValue, IsLane}
+use Rattle.lane_engine.specs.Polling.{LONGEST_SETTLEMENT, PollingAnswer, CountsNothing, GrewBy, IsAnswered, IsAsked, IsPolled, IsPollingRun, IsSameBut, IsUnpolled, LosesDue, PollingEvents, PortPolled, settlements}
+use Rattle.lane_engine.specs.Receipts.{RESPONSE, answer_to_push, due_by, response_by}
 use Rattle.lane_engine.specs.Settling.{AskingAnswer, IsHeard, settled_by}
 use Rattle.lane_engine.specs.Settling.{IsSettled as IsLeft}
 use Rattle.lane_engine.specs.Sound.{IsSoundState}
-use Rattle.lane_engine.specs.Unforged.{made_as}
 use Rattle.lane_engine.specs.World.{world_of, cards_of}
 use Rattle.lane_engine.specs.declared.answers.LaneErr.{LaneErr}
 use Rattle.lane_engine.specs.declared.answers.LaneErr.TheVariants as lane_err
 use Rattle.lane_engine.specs.declared.answers.Poll.{Poll}
 use Rattle.lane_engine.specs.declared.answers.Poll.TheVariants as poll
-use Rattle.lane_engine.proofs.PolledLemmas.{AskedFrom, events_heard, keeps_as, kept_heard, kept_stopped, settled_as, went_on_heard}
-use Rattle.lane_engine.proofs.PollRunLemmas.{GivesAndSettles, grew_by, never_nothing, went_on_more}
+use Rattle.lane_engine.proofs.PolledLemmas.{AskedFrom, events_heard, events_stopped, keeps_as, kept_heard, kept_stopped, settled_as, went_on_heard}
+use Rattle.lane_engine.proofs.PollRunLemmas.{grew_by, lost_by, never_nothing}
 
 -- by the two ends of a message that was taken
 pub heard_cases : {D : Type 0} (mid new : LaneValue D) (more : List Entry) (answer : Poll) (result : Result Poll LaneErr) → IfOk result (λ found. found ≡ answer) → IsLeft mid new more result
     → (P : Result Poll LaneErr → Type 0)
-    → ((found : Poll) → found ≡ answer → new.journal.entries ≡ mid.journal.entries ++ more → new.is_stale ≡ false → P (Ok found))
-    → ((f : SiteFault) → new.journal.entries ≡ mid.journal.entries → new.is_stale ≡ true → P (Err (lane_err.SiteFault f))) → P result
-heard_cases mid new more answer (Ok found) is left P ok stopped = ok found is left.0 left.1
-heard_cases mid new more answer (Err (lane_err.SiteFault f)) is left P ok stopped = stopped f left.0 left.1
+    → ((found : Poll) → found ≡ answer → new.journal.entries ≡ mid.journal.entries ++ more → new.is_stale ≡ false → new.lost ≡ mid.lost → P (Ok found))
+    → ((f : SiteFault) → new.journal.entries ≡ mid.journal.entries → new.is_stale ≡ true → new.lost ≡ more → 1 ≤ length more → P (Err (lane_err.SiteFault f))) → P result
+heard_cases mid new more answer (Ok found) is left P ok stopped = ok found is left.0 left.1 left.2
+heard_cases mid new more answer (Err (lane_err.SiteFault f)) is left P ok stopped = stopped f left.0 left.1 left.3 left.2
 heard_cases mid new more answer (Err lane_err.Memory) is left P ok stopped = absurd left
 heard_cases mid new more answer (Err lane_err.Stale) is left P ok stopped = absurd left
 heard_cases mid new more answer (Err (lane_err.Full long need)) is left P ok stopped = absurd left
@@ -80,16 +76,6 @@ asked_as old new by before now poll.Late isnt message given is = (message, given
 -- ---- a lane that is as it was but for room
 
 module _ {D B C : Type 0} (told : Meaning D B C) (counts : D → Counts) (port : B → PortState) (lines : C → ℕ → List Line) where
-  past_same : (site : D) → PastStands told site site
-  past_same site = record {
-    later = omega arith;
-    no_more = λ k image le at. at;
-    no_fewer = λ k image le at. at;
-    beside = λ k le. refl;
-    no_more_choices = λ k choice le at. at;
-    no_fewer_choices = λ k choice le at. at;
-  }
-
   pub later_unpolled : (old new : LaneValue D) → IsUnpolled old new → IsLater told counts port lines old new
   later_unpolled old new same = record {
     lane = same.rest.lane;
@@ -98,7 +84,7 @@ module _ {D B C : Type 0} (told : Meaning D B C) (counts : D → Counts) (port :
     faults = subst (λ (d : D). (counts old.site).faults ≤ (counts d).faults) (sym same.site) (omega arith);
     wants = subst (λ (d : D). (counts old.site).wants ≤ (counts d).wants) (sym same.site) (omega arith);
     tells = ap told.tells same.site;
-    past = λ tells. subst (λ (d : D). PastStands told old.site d) (sym same.site) (past_same old.site);
+    past = λ tells. subst (λ (d : D). PastStands told old.site d) (sym same.site) (past_at_once told old.site);
     polls = λ tells. subst (λ (d : D). (port_now told port lines old.site).polls ≤ (port_now told port lines d).polls) (sym same.site) (omega arith);
     stale = λ is. same.is_stale ∙ is;
   }
@@ -168,26 +154,33 @@ module _ {D B C : Type 0} (told : Meaning D B C) (counts : D → Counts) (port :
           moment = heard.rest.settings.moment ∙ asked.rest.settings.moment;
           name = heard.rest.settings.name ∙ asked.rest.settings.name;
           end = heard.rest.settings.end ∙ asked.rest.settings.end;
+          opened = heard.rest.settings.opened ∙ asked.rest.settings.opened;
         };
       }
 
       pub answer_heard : old.journal.length + LONGEST_SETTLEMENT ≤ LIMIT → PollingAnswer old result
-      answer_heard fits = heard_cases mid new more answer result heard.answer heard.left (λ r. PollingAnswer old r) (λ found is entries fresh. (live, fits)) (λ f entries gone. (live, fits))
+      answer_heard fits = heard_cases mid new more answer result heard.answer heard.left (λ r. PollingAnswer old r) (λ found is entries fresh same. (live, fits)) (λ f entries gone lost some. (live, fits))
 
-      pub polled_heard : IsPolled old new result
-      polled_heard = heard_cases mid new more answer result heard.answer heard.left (λ r. IsPolled old new r)
-          (λ found is entries fresh. (
-            subst (λ (l : List Entry). GrewBy old.journal.entries l found) (sym (entries_ok entries))
-                (subst (λ (p : Poll). GrewBy old.journal.entries (old.journal.entries ++ settlements by (moment_for old) (due_by p (response_by old.journal.entries message.0 heard.push))) found) (is ∙ answer_is)
+      pub polled_heard : IsPolled old new by result
+      polled_heard = heard_cases mid new more answer result heard.answer heard.left (λ r. IsPolled old new by r)
+          (λ found is entries fresh same. (
+            subst (λ (l : List Entry). GrewBy old.journal.entries l by found) (sym (entries_ok entries))
+                (subst (λ (p : Poll). GrewBy old.journal.entries (old.journal.entries ++ settlements by (moment_for old) (due_by p (response_by old.journal.entries message.0 heard.push))) by found) (is ∙ answer_is)
                 (grew_by old.journal.entries message.0 heard.push by (moment_for old) found (is ∙ answer_is))),
             fresh,
             rest_new,
+            same ∙ asked.lost,
           ))
-          (λ f entries gone. (entries ∙ asked.entries, gone, rest_new))
+          (λ f entries gone lost some. (
+            entries ∙ asked.entries,
+            gone,
+            rest_new,
+            lost_by by (moment_for mid) (due_by answer (response_by mid.journal.entries message.0 heard.push)) new.lost lost,
+          ))
 
       pub nothing_heard : empty_polls (counts mid.site) ≡ empty_polls (counts old.site) → empty_polls (counts new.site) ≡ empty_polls (counts mid.site) → CountsNothing (counts old.site) (counts new.site) result
       nothing_heard first second = heard_cases mid new more answer result heard.answer heard.left (λ r. CountsNothing (counts old.site) (counts new.site) r)
-          (λ found is entries fresh. counts_nothing (counts old.site) (counts new.site) found (not_nothing found is) (second ∙ first)) (λ f entries gone. second ∙ first)
+          (λ found is entries fresh same. counts_nothing (counts old.site) (counts new.site) found (not_nothing found is) (second ∙ first)) (λ f entries gone lost some. second ∙ first)
 
       pub told_mid : Tells told old.site → Tells told mid.site
       told_mid tells = subst IsTrue (sym asked.tells) tells
@@ -208,12 +201,23 @@ module _ {D B C : Type 0} (told : Meaning D B C) (counts : D → Counts) (port :
           → PortPolled old new by (port_now told port lines old.site) (port_now told port lines new.site) result
       told_heard tells given polls = subst (λ (p : PortState). PortPolled old new by (port_now told port lines old.site) p result) (sym (port_new tells))
           (heard_cases mid new more answer result heard.answer heard.left (λ r. PortPolled old new by (port_now told port lines old.site) (port_now told port lines mid.site) r)
-          (λ found is entries fresh. (
+          (λ found is entries fresh same. (
             (polling_asked tells).sent,
             polls,
             asked_as old new by (port_now told port lines old.site) (port_now told port lines mid.site) found (not_nothing found is) message given (answered_new found is entries),
           ))
-          (λ f entries gone. polling_asked tells))
+          (λ f entries gone lost some. polling_asked tells))
+
+      -- what is lost is what the message made due
+      pub loses_heard : Tells told old.site → (port_now told port lines mid.site).given ≡ (port_now told port lines old.site).given ++ message ∷ []
+          → LosesDue old new by (port_now told port lines old.site) (port_now told port lines new.site) result
+      loses_heard tells given = heard_cases mid new more answer result heard.answer heard.left (λ r. LosesDue old new by (port_now told port lines old.site) (port_now told port lines new.site) r)
+          (λ found is entries fresh same. tt)
+          (λ f entries gone lost some. inr (
+            message,
+            ap (λ (p : PortState). p.given) (port_new tells) ∙ given,
+            λ past keeps. lost ∙ more_is ∙ ap (λ (p : Push). settled_by by old message.0 p) (heard.makes past (keeps_as past old.heard.pieces mid.heard.pieces asked.kept keeps)),
+          ))
 
       pub cause_heard : SameFaults (counts old.site) (counts mid.site) → LaneCause (counts mid.site) (counts new.site) result → LaneCause (counts old.site) (counts new.site) result
       cause_heard same cause = record {
@@ -222,7 +226,7 @@ module _ {D B C : Type 0} (told : Meaning D B C) (counts : D → Counts) (port :
         answer = subst (λ (n : ℕ). AnswerCause (record { faults = n; wants = (counts old.site).wants; beside = (counts old.site).beside }) (counts new.site) result) same.0
             (subst (λ (n : ℕ). AnswerCause (record { faults = (counts mid.site).faults; wants = n; beside = (counts old.site).beside }) (counts new.site) result) same.1
             (heard_cases mid new more answer result heard.answer heard.left (λ r. AnswerCause (counts mid.site) (counts new.site) r → AnswerCause (record { faults = (counts mid.site).faults; wants = (counts mid.site).wants; beside = (counts old.site).beside }) (counts new.site) r)
-            (λ found is entries fresh h. h) (λ f entries gone h. by_fault f h) cause.answer));
+            (λ found is entries fresh same h. h) (λ f entries gone lost some h. by_fault f h) cause.answer));
       }
         where
           by_fault : (f : SiteFault) → AnswerCause {T = Poll} (counts mid.site) (counts new.site) (Err (lane_err.SiteFault f))
@@ -235,7 +239,7 @@ module _ {D B C : Type 0} (told : Meaning D B C) (counts : D → Counts) (port :
         lane = rest_new.lane;
         lanes = rest_new.lanes;
         entries = heard_cases mid new more answer result heard.answer heard.left (λ r. (added : List Entry) × (new.journal.entries ≡ old.journal.entries ++ added))
-            (λ found is entries fresh. (settles, entries_ok entries)) (λ f entries gone. ([], entries ∙ asked.entries ∙ sym (append-nil old.journal.entries)));
+            (λ found is entries fresh same. (settles, entries_ok entries)) (λ f entries gone lost some. ([], entries ∙ asked.entries ∙ sym (append-nil old.journal.entries)));
         faults = (let a = asked.faults in omega (arith, a, faults));
         wants = (let a = asked.wants in omega (arith, a, wants));
         tells = tells_new ∙ asked.tells;
@@ -255,6 +259,32 @@ events_as told port lines old new by (poll.Notice status) isnt run = run
 events_as told port lines old new by (poll.Settled keyset counter) isnt run = run
 events_as told port lines old new by poll.Late isnt run = run
 
+-- ---- where nothing is lost
+
+pub loses_none : {D : Type 0} (old new : LaneValue D) (by : ℕ) (before now : PortState) (result : Result Poll LaneErr) → new.lost ≡ [] → LosesDue old new by before now result
+loses_none old new by before now (Ok found) none = tt
+loses_none old new by before now (Err (lane_err.SiteFault f)) none = inl none
+loses_none old new by before now (Err lane_err.Memory) none = tt
+loses_none old new by before now (Err lane_err.Stale) none = tt
+loses_none old new by before now (Err (lane_err.Full long need)) none = tt
+loses_none old new by before now (Err lane_err.Closed) none = tt
+loses_none old new by before now (Err lane_err.Exhausted) none = tt
+loses_none old new by before now (Err lane_err.UnknownKeyset) none = tt
+loses_none old new by before now (Err (lane_err.AlreadyReserved counter)) none = tt
+loses_none old new by before now (Err lane_err.NotReserved) none = tt
+
+pub events_none : {D B C : Type 0} (told : Meaning D B C) (port : B → PortState) (lines : C → ℕ → List Line) (old new : LaneValue D) (by : ℕ) (error : LaneErr)
+    → new.journal.entries ≡ old.journal.entries → new.lost ≡ [] → PollingEvents told port lines old new by (Err error)
+events_none told port lines old new by (lane_err.SiteFault f) same none = (same, inl none)
+events_none told port lines old new by lane_err.Memory same none = same
+events_none told port lines old new by lane_err.Stale same none = same
+events_none told port lines old new by (lane_err.Full long need) same none = same
+events_none told port lines old new by lane_err.Closed same none = same
+events_none told port lines old new by lane_err.Exhausted same none = same
+events_none told port lines old new by lane_err.UnknownKeyset same none = same
+events_none told port lines old new by (lane_err.AlreadyReserved counter) same none = same
+events_none told port lines old new by lane_err.NotReserved same none = same
+
 -- ---- where the port wasn't asked
 
 pub unpolled_same : {D : Type 0} (lane : LaneValue D) → IsUnpolled lane lane
@@ -263,8 +293,9 @@ unpolled_same lane = record {
   entries = refl;
   length = refl;
   is_stale = refl;
+  lost = refl;
   kept = λ of. refl;
-  rest = record { element = refl; lane = refl; lanes = refl; settings = record { moment = refl; name = refl; end = refl } };
+  rest = record { element = refl; lane = refl; lanes = refl; settings = record { moment = refl; name = refl; end = refl; opened = refl } };
 }
 
 module _ {D B C : Type 0} (told : Meaning D B C) (counts : D → Counts) (port : B → PortState) (lines : C → ℕ → List Line) where
@@ -336,15 +367,15 @@ module _ {D B C : Type 0} (told : Meaning D B C) (counts : D → Counts) (port :
     (given : Tells told old.site → (port_now told port lines mid.site).given ≡ (port_now told port lines old.site).given ++ message ∷ []) (tells_new : told.tells new.site ≡ told.tells mid.site)
     (cause : LaneCause (counts mid.site) (counts new.site) result) where
   heard_by : (P : Result Poll LaneErr → Type 0)
-      → ((found : Poll) → found ≡ answer_to_push mid.journal.entries message.0 heard.push → new.journal.entries ≡ mid.journal.entries ++ settled_by by mid message.0 heard.push → new.is_stale ≡ false → P (Ok found))
-      → ((f : SiteFault) → new.journal.entries ≡ mid.journal.entries → new.is_stale ≡ true → P (Err (lane_err.SiteFault f))) → P result
+      → ((found : Poll) → found ≡ answer_to_push mid.journal.entries message.0 heard.push → new.journal.entries ≡ mid.journal.entries ++ settled_by by mid message.0 heard.push → new.is_stale ≡ false → new.lost ≡ mid.lost → P (Ok found))
+      → ((f : SiteFault) → new.journal.entries ≡ mid.journal.entries → new.is_stale ≡ true → new.lost ≡ settled_by by mid message.0 heard.push → 1 ≤ length (settled_by by mid message.0 heard.push) → P (Err (lane_err.SiteFault f))) → P result
   heard_by P ok stopped = heard_cases mid new (settled_by by mid message.0 heard.push) (answer_to_push mid.journal.entries message.0 heard.push) result heard.answer heard.left P ok stopped
 
   pub kept_call : KeptSince told counts port lines opening new
   kept_call = heard_by (λ r. AnswerCause (counts mid.site) (counts new.site) r → KeptSince told counts port lines opening new)
-      (λ found is entries live_new risen. kept_heard told counts port lines opening old mid of live seen asked kept new by message result fresh heard given tells_new cause.faults cause.wants
-      (entries_ok told counts port lines old mid live asked new by message result heard entries) live_new)
-      (λ f entries gone risen. kept_stopped told counts port lines opening old mid of live seen asked kept new by message result fresh heard given tells_new cause.faults cause.wants (entries ∙ asked.entries) gone
+      (λ found is entries live_new same risen. kept_heard told counts port lines opening old mid of live seen asked kept new by message result fresh heard given tells_new cause.faults cause.wants
+      (entries_ok told counts port lines old mid live asked new by message result heard entries) same live_new)
+      (λ f entries gone lost some risen. kept_stopped told counts port lines opening old mid of live seen asked kept new by message result fresh heard given tells_new cause.faults cause.wants (entries ∙ asked.entries) lost gone
       (fault_risen (counts mid.site) (counts new.site) f risen))
       cause.answer
 
@@ -355,7 +386,10 @@ module _ {D B C : Type 0} (told : Meaning D B C) (counts : D → Counts) (port :
 
   pub events_call : Tells told old.site → HasChoice told port lines mid.site (told.clock mid.site) → IsFair told counts port lines opening new.site → PollingEvents told port lines old new by result
   events_call tells choice fair = heard_by (λ r. PollingEvents told port lines old new by r)
-      (λ found is entries live_new. events_as told port lines old new by found (not_nothing told counts port lines old mid live asked new by message result heard found is)
+      (λ found is entries live_new same. events_as told port lines old new by found (not_nothing told counts port lines old mid live asked new by message result heard found is)
       (events_heard told counts port lines opening old mid of live seen asked kept new by message result fresh heard given tells_new cause.faults cause.wants tells choice fair
       (entries_ok told counts port lines old mid live asked new by message result heard entries)))
-      (λ f entries gone. entries ∙ asked.entries)
+      (λ f entries gone lost some. (
+        entries ∙ asked.entries,
+        inr (events_stopped told counts port lines opening old mid of live seen asked kept new by message result fresh heard given tells_new cause.faults cause.wants tells choice fair lost some),
+      ))

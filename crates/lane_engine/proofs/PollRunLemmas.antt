@@ -1,10 +1,10 @@
 -- What a poll answers and adds, and the events that it is.
-use Rattle.std.proofs.Common.{◌≡◌, ◌⊎◌, inl, inr, ℕ, ◌+◌, ◌≤◌, ◌<◌, ◌==◌, ◌&&◌, Bool, false, true, not, if◌then◌else◌, Option, Some, None, Result, Ok, Err, List, [], ◌∷◌, ◌++◌, map, reverse, slice_get, refl, sym, ◌∙◌, ap, subst, arith, append-nil, append_assoc}
+use Rattle.std.proofs.Common.{◌≡◌, inl, inr, ℕ, ◌≤◌, ◌==◌, Bool, false, true, not, if◌then◌else◌, Option, Some, None, List, [], ◌∷◌, ◌++◌, length, map, reverse, refl, sym, ◌∙◌, ap, subst, arith, append-nil}
 use Rattle.std.specs.List.{list_any, list_all, range_with_len}
 use Rattle.std.proofs.lemmas.Grind.{common_steps}
 use Rattle.std.proofs.lemmas.Bool.Decides.{nat_tests}
-use Rattle.ota_core.specs.Keyset.{Keyset, is_same_keyset}
-use Rattle.ota_core.specs.Entry.{Reservation, is_settlement_of, is_reserve_of}
+use Rattle.ota_core.specs.Keyset.{Keyset}
+use Rattle.ota_core.specs.Entry.{by_of, is_settlement_of, is_reserve_of}
 use Rattle.ota_core.specs.History.{broken_batch}
 use Rattle.ota_core.specs.HistoryLaws.{is_same_keyset-refl}
 use Rattle.ota_core.specs.Questions.{last_moment, state_of}
@@ -19,20 +19,20 @@ use Rattle.world_core.specs.Condition.{is_answered}
 use Rattle.world_core.specs.Members.{In}
 use Rattle.world_core.specs.MemberLaws.{In-left}
 use Rattle.world_core.specs.Run.{Runs}
-use Rattle.world_core.specs.Sound.{IsSound, IsReservedLine, CardsWentOn}
+use Rattle.world_core.specs.Sound.{IsSound, CardsWentOn}
 use Rattle.world_core.specs.Card.{CardState}
-use Rattle.world_core.specs.WorldState.{WorldState}
 use Rattle.world_core.specs.declared.answers.Made.{Made}
-use Rattle.world_core.specs.declared.events.Event.TheVariants.{Begin, Seal, Give}
+use Rattle.world_core.specs.declared.events.Event.TheVariants.{Begin}
 use Rattle.world_core.specs.declared.lines.Line.{Line}
 use Rattle.world_core.specs.declared.segments.Sent.{Sent}
-use Rattle.lane_engine.specs.Polling.{AreGivenBy, FirstMade, GrewBy, giving, settlements, settling_events}
+use Rattle.lane_engine.specs.Adding.{is_settlement}
+use Rattle.lane_engine.specs.Polling.{AreGivenBy, GrewBy, LostBy, giving, settlements, settling_events}
 use Rattle.lane_engine.specs.Receipts.{Response, place_of, response_at, response_by, response_of, is_receipt, is_closed, answer_to_place, answer_to_receipt, answer_to_response, answer_to_packet, answer_to_push, due_by, settlement_of}
 use Rattle.lane_engine.specs.Unforged.{made_as}
-use Rattle.lane_engine.specs.World.{world_of, cards_of}
+use Rattle.lane_engine.specs.World.{world_of}
 use Rattle.lane_engine.specs.declared.answers.Poll.{Poll}
 use Rattle.lane_engine.specs.declared.answers.Poll.TheVariants as poll
-use Rattle.lane_engine.proofs.AddingLemmas.{batch_runs}
+use Rattle.lane_engine.proofs.AddingLemmas.{batch_runs, may_begin}
 use Rattle.lane_engine.proofs.DueLemmas.{IsDue, first_try, push_due, settlement_legal}
 use Rattle.lane_engine.proofs.SettledLemmas.{answered_by, answered_more, first_made, may_give}
 
@@ -89,9 +89,28 @@ settles_place by moment response = by_test (response.answer.status == 0x00)
     by_test true = grind (arith, common_steps, nat_tests, is_same_keyset-refl response.keyset)
     by_test false = grind (arith, common_steps, nat_tests, is_same_keyset-refl response.keyset)
 
+settles_under : (by moment : ℕ) (response : Response) → by_of (settlement_of by moment response) ≡ by
+settles_under by moment response = by_test (response.answer.status == 0x00)
+  where
+    by_test : (t : Bool) → by_of (if t then entry.Done by moment response.keyset response.answer.counter response.answer.octets else entry.Refused by moment response.keyset response.answer.counter response.answer.status) ≡ by
+    by_test true = refl
+    by_test false = refl
+
+settles_one : (by moment : ℕ) (response : Response) → is_settlement (settlement_of by moment response) ≡ true
+settles_one by moment response = by_test (response.answer.status == 0x00)
+  where
+    by_test : (t : Bool) → is_settlement (if t then entry.Done by moment response.keyset response.answer.counter response.answer.octets else entry.Refused by moment response.keyset response.answer.counter response.answer.status) ≡ true
+    by_test true = refl
+    by_test false = refl
+
+-- what is due is one settlement at most
+pub lost_by : (by moment : ℕ) (due : Option Response) (lost : List Entry) → lost ≡ settlements by moment due → LostBy lost by
+lost_by by moment None lost is = inl is
+lost_by by moment (Some response) lost is = inr (settlement_of by moment response, is, settles_one by moment response, settles_under by moment response)
+
 -- the history grew as the answer says
 pub grew_by : (entries : List Entry) (card : CardId) (made : Push) (by moment : ℕ) (answer : Poll) → answer ≡ answer_to_push entries card made
-    → GrewBy entries (entries ++ settlements by moment (due_by answer (response_by entries card made))) answer
+    → GrewBy entries (entries ++ settlements by moment (due_by answer (response_by entries card made))) by answer
 grew_by entries card made by moment poll.Nothing is = append-nil entries
 grew_by entries card made by moment poll.More is = append-nil entries
 grew_by entries card made by moment poll.NotOurs is = append-nil entries
@@ -102,6 +121,7 @@ grew_by entries card made by moment (poll.Settled keyset counter) is =
       ap (λ (o : Option Response). entries ++ settlements by moment o) found.1,
       subst (λ (k : Keyset). is_settlement_of (record { keyset = k; counter = counter }) (settlement_of by moment found.0) ≡ true) found.2
           (subst (λ (n : ℕ). is_settlement_of (record { keyset = found.0.keyset; counter = n }) (settlement_of by moment found.0) ≡ true) found.3 (settles_place by moment found.0)),
+      settles_under by moment found.0,
     )
 grew_by entries card made by moment poll.Late is = append-nil entries
 
@@ -155,6 +175,10 @@ pub record GivesAndSettles (entries : List Entry) (port : PortState) (card : Car
   pub given : AreGivenBy card said port.made positions
   pub runs : (chosen : ℕ → List Line) (sent : List Sent) (before : List ℕ)
       → Runs (world_of entries port chosen sent before) (map giving positions ++ settling_events (settlements by moment due)) (world_of (entries ++ settlements by moment due) port chosen sent (before ++ positions))
+  -- where something is due, its batch begins
+  pub begins : 1 ≤ length (settlements by moment due) → (chosen : ℕ → List Line) (sent : List Sent) (before : List ℕ)
+      → Runs (world_of entries port chosen sent before) (map giving positions ++ Begin (settlements by moment due) ∷ [])
+      (record (world_of entries port chosen sent (before ++ positions)) { batch = Some (settlements by moment due) })
 
 module _ (entries : List Entry) (port : PortState) (card : CardId) (made : Push) (by moment : ℕ) (later : last_moment (reverse entries) ≤ moment)
     (was_made : (response : Response) → response_by entries card made ≡ Some response → In (made_as card response) port.made)
@@ -165,6 +189,7 @@ module _ (entries : List Entry) (port : PortState) (card : CardId) (made : Push)
     given = refl;
     runs = λ chosen sent before.
         ap (λ (l : List Entry). world_of l port chosen sent (before ++ [])) (append-nil entries) ∙ ap (λ (l : List ℕ). world_of entries port chosen sent l) (append-nil before);
+    begins = λ some. absurd (omega (arith, some));
   }
 
   said_alone : (response : Response) → In (made_as card response) port.made → GivesAndSettles entries port card (Some response) None by moment
@@ -174,6 +199,7 @@ module _ (entries : List Entry) (port : PortState) (card : CardId) (made : Push)
         positions = place.0 ∷ [];
         given = (place.0, place.1, refl);
         runs = λ chosen sent before. (may_give entries port chosen sent before place.0 (made_as card response) place.1.0, ap (λ (l : List Entry). world_of l port chosen sent (before ++ place.0 ∷ [])) (append-nil entries));
+        begins = λ some. absurd (omega (arith, some));
       }
 
   said_and_settled : (response : Response) → In (made_as card response) port.made → IsDue entries card made response → GivesAndSettles entries port card (Some response) (Some response) by moment
@@ -187,6 +213,13 @@ module _ (entries : List Entry) (port : PortState) (card : CardId) (made : Push)
         runs = λ chosen sent before. (
           may_give entries port chosen sent before place.0 (made_as card response) place.1.0,
           batch_runs entries (settlement_of by moment response ∷ []) port chosen sent (before ++ place.0 ∷ []) legal (answered_more port.made before place.0 by moment response answered),
+        );
+        begins = λ some chosen sent before. (
+          may_give entries port chosen sent before place.0 (made_as card response) place.1.0,
+          (
+            may_begin entries (settlement_of by moment response ∷ []) port chosen sent (before ++ place.0 ∷ []) legal (answered_more port.made before place.0 by moment response answered),
+            refl,
+          ),
         );
       }
 

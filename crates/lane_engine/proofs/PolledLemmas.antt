@@ -1,22 +1,19 @@
 -- What a lane keeps through a poll.
-use Rattle.std.proofs.Common.{◌≡◌, ◌⊎◌, inl, inr, ℕ, ◌+◌, ◌≤◌, ◌<◌, max, IsTrue, Bool, false, true, Option, Some, None, Result, Ok, Err, List, [], ◌∷◌, ◌++◌, length, drop, map, reverse, All, refl, sym, ◌∙◌, ap, subst, arith, append-nil, append_assoc, length-append, ⊎_elim}
+use Rattle.std.proofs.Common.{◌≡◌, ◌⊎◌, inl, inr, ℕ, ◌≤◌, max, IsTrue, Bool, false, true, Option, Some, None, Result, List, [], ◌∷◌, ◌++◌, length, drop, map, reverse, All, refl, sym, ◌∙◌, ap, subst, arith, append-nil, append_assoc, ⊎_elim}
 use Rattle.std.proofs.lemmas.List.{append_cancel_left, drop-append-le}
 use Rattle.std.proofs.Math.Nat.{le-max_right}
 use Rattle.disk_model.specs.Counts.{Counts, HasRisen}
 use Rattle.disk_model.specs.Disk.{Meaning, Tells, DiskRun, image_now}
-use Rattle.disk_model.specs.Runs.{past_joined}
 use Rattle.ota_core.specs.Questions.{last_moment}
 use Rattle.ota_core.specs.declared.cards.CardId.{CardId}
 use Rattle.ota_core.specs.declared.entries.Entry.{Entry}
-use Rattle.counter_journal.specs.EntryRanges.{IsEntry, IsHistory, IsOfLane}
+use Rattle.counter_journal.specs.EntryRanges.{IsEntry, IsHistory}
 use Rattle.counter_journal.specs.JournalReading.{Holds}
 use Rattle.counter_journal.specs.StandingLaws.{ready_holds}
 use Rattle.site_model.specs.Cards.{HasChoice, port_at, port_now}
 use Rattle.site_model.specs.Cards.{Keeps as CardsKeep}
 use Rattle.site_model.specs.Port.{PortState, IsPolling}
 use Rattle.site_model.specs.Runs.{PortRun}
-use Rattle.site_model.specs.declared.site_faults.SiteFault.{SiteFault}
-use Rattle.site_model.specs.declared.site_faults.SiteFault.TheVariants as fault
 use Rattle.sms_segments.specs.Assembled.{OfCard, answer_to}
 use Rattle.sms_segments.specs.Kept.{Keeps, Pile, kept_in}
 use Rattle.sms_segments.specs.declared.assembling.Push.{Push}
@@ -24,6 +21,7 @@ use Rattle.sms_segments.specs.declared.concatenations.Concatenation.{Concatenati
 use Rattle.world_core.specs.Members.{In}
 use Rattle.world_core.specs.Run.{Runs}
 use Rattle.world_core.specs.Sound.{IsSound, CardsWentOn}
+use Rattle.world_core.specs.declared.events.Event.TheVariants.{Begin}
 use Rattle.world_core.specs.declared.lines.Line.{Line}
 use Rattle.world_core.specs.declared.segments.Sent.{Sent}
 use Rattle.lane_engine.specs.Departing.{HaveCardsGoneOn}
@@ -33,21 +31,21 @@ use Rattle.lane_engine.specs.World.{world_of, cards_of}
 use Rattle.lane_engine.proofs.AddingLemmas.{stands_as}
 use Rattle.lane_engine.proofs.PortLemmas.{port_gone_on}
 use Rattle.lane_engine.proofs.PollRunLemmas.{GivesAndSettles, gives_and_settles, said_by, went_on_more}
-use Rattle.lane_engine.specs.Adding.{moment_for, SameFaults, LaneCause}
-use Rattle.lane_engine.specs.Kept.{Opening, KeptSince, KeptTold, KeptFair, IsFair, IsLater, WasDue, AreGiven, AreRisen, IsSettled, added_since}
-use Rattle.lane_engine.specs.LaneValue.{LaneValue, IsLane, IsSameSettings}
-use Rattle.lane_engine.specs.Polling.{IsPollingRun, IsSameBut, IsUnpolled, KeepsSame, giving, settlements, settling_events}
+use Rattle.lane_engine.specs.Adding.{moment_for}
+use Rattle.lane_engine.specs.Kept.{KeptSince, KeptTold, KeptFair, IsFair, WasDue, AreGiven, AreRisen, IsSettled, IsWithFirst, added_since}
+use Rattle.lane_engine.specs.Opening.{Opening}
+use Rattle.lane_engine.specs.LaneValue.{LaneValue, IsLane}
+use Rattle.lane_engine.specs.Polling.{IsPollingRun, IsStoppedRun, IsSameBut, IsUnpolled, KeepsSame, giving, settlements, settling_events}
 use Rattle.lane_engine.specs.Receipts.{RESPONSE, Response, answer_to_push, due_by, due_in, message_of, past_of, response_by, response_in}
 use Rattle.lane_engine.specs.Settling.{IsAskedOnce, IsHeard, settled_by}
-use Rattle.lane_engine.specs.Settling.{IsSettled as IsLeft}
 use Rattle.lane_engine.specs.declared.answers.LaneErr.{LaneErr}
-use Rattle.lane_engine.specs.declared.answers.LaneErr.TheVariants as lane_err
 use Rattle.lane_engine.specs.declared.answers.Poll.{Poll}
 use Rattle.lane_engine.proofs.AppendLemmas.{IsWithBatch, no_shorter}
 use Rattle.lane_engine.proofs.AskedLemmas.{KeptAsked, kept_asked, all_asked, sends}
 use Rattle.lane_engine.proofs.DueLemmas.{settled_history}
 use Rattle.lane_engine.proofs.HeardLemmas.{past_of-push, made_given, batch, all_heard, fair_heard, fair_stopped, sound_heard}
 use Rattle.lane_engine.proofs.KeptLemmas.{fair_before, given_on, given_stands, AreSoundIn}
+use Rattle.lane_engine.proofs.LeftLemmas.{AreLeft, held_first, held_more, left_on, left_still}
 
 -- the pieces that are kept may stand in another order
 pub keeps_as : (past : List OfCard) (old new : Pile) → ((of : Concatenation) → kept_in new of ≡ kept_in old of) → Keeps RESPONSE past old → Keeps RESPONSE past new
@@ -70,17 +68,20 @@ kept_unpolled {D = D} told counts port lines opening old new same kept = record 
   faults = subst (λ (d : D). opening.counts.faults ≤ (counts d).faults) (sym same.site) kept.faults;
   wants = subst (λ (d : D). opening.counts.wants ≤ (counts d).wants) (sym same.site) kept.wants;
   where_told = λ tells. (
-      let was : KeptTold told counts port lines opening old.site old.journal.entries old.is_stale old.heard.pieces = kept.where_told (subst (λ (d : D). Tells told d) same.site tells) in
-      let again : KeptTold told counts port lines opening old.site old.journal.entries old.is_stale new.heard.pieces = record {
+      let was : KeptTold told counts port lines opening old.site old.journal.entries old.lost old.is_stale old.heard.pieces = kept.where_told (subst (λ (d : D). Tells told d) same.site tells) in
+      let again : KeptTold told counts port lines opening old.site old.journal.entries old.lost old.is_stale new.heard.pieces = record {
         later = was.later;
         heard = λ live. (let heard = was.heard live in (heard.0, heard.1, keeps_as (past_of heard.0) old.heard.pieces new.heard.pieces same.kept heard.2));
+        few = was.few;
         stale = was.stale;
+        left = was.left;
         fair = was.fair;
         all = was.all;
       } in
-      subst (λ (d : D). KeptTold told counts port lines opening d new.journal.entries new.is_stale new.heard.pieces) (sym same.site)
-      (subst (λ (l : List Entry). KeptTold told counts port lines opening old.site l new.is_stale new.heard.pieces) (sym same.entries)
-      (subst (λ (b : Bool). KeptTold told counts port lines opening old.site old.journal.entries b new.heard.pieces) (sym same.is_stale) again)));
+      subst (λ (d : D). KeptTold told counts port lines opening d new.journal.entries new.lost new.is_stale new.heard.pieces) (sym same.site)
+      (subst (λ (l : List Entry). KeptTold told counts port lines opening old.site l new.lost new.is_stale new.heard.pieces) (sym same.entries)
+      (subst (λ (l : List Entry). KeptTold told counts port lines opening old.site old.journal.entries l new.is_stale new.heard.pieces) (sym same.lost)
+      (subst (λ (b : Bool). KeptTold told counts port lines opening old.site old.journal.entries old.lost b new.heard.pieces) (sym same.is_stale) again))));
 }
 
 -- ---- a lane whose port was asked
@@ -89,6 +90,7 @@ module _ {D B C : Type 0} (told : Meaning D B C) (counts : D → Counts) (port :
   -- its history and what it keeps are as they were, and its site was asked once
   pub record AskedFrom (old mid : LaneValue D) : Type 0 where
     pub entries : mid.journal.entries ≡ old.journal.entries
+    pub lost : mid.lost ≡ old.lost
     pub kept : KeepsSame old mid
     pub rest : IsSameBut old mid
     pub tells : told.tells mid.site ≡ told.tells old.site
@@ -103,6 +105,7 @@ module _ {D B C : Type 0} (told : Meaning D B C) (counts : D → Counts) (port :
       → (Tells told roomy.site → CardsKeep told port lines roomy.site mid.site) → AskedFrom old mid
   asked_from old roomy mid same asked tells faults wants run keeps = record {
     entries = ap (λ j. j.entries) asked.journal ∙ same.entries;
+    lost = asked.lost ∙ same.lost;
     kept = λ of. ap (λ k. kept_in k.pieces of) asked.heard ∙ same.kept of;
     rest = record {
       element = ap (λ k. k.element) asked.heard ∙ same.rest.element;
@@ -112,6 +115,7 @@ module _ {D B C : Type 0} (told : Meaning D B C) (counts : D → Counts) (port :
         moment = asked.settings.moment ∙ same.rest.settings.moment;
         name = asked.settings.name ∙ same.rest.settings.name;
         end = asked.settings.end ∙ same.rest.settings.end;
+        opened = asked.settings.opened ∙ same.rest.settings.opened;
       };
     };
     tells = subst (λ (d : D). told.tells mid.site ≡ told.tells d) same.site tells;
@@ -166,6 +170,15 @@ module _ {D B C : Type 0} (told : Meaning D B C) (counts : D → Counts) (port :
       let fair_old = fair_before told counts port lines opening old.site mid.site (asked.run tells).past was.later fair in
       kept_asked told counts port lines opening old.site mid.site (asked.run tells) (asked.keeps tells) was.later entries (held_old tells) is_history (seen old.site tells) fair (was.fair fair_old) (was.all live fair_old)
 
+  -- the images stay while the port works
+  left_mid : (tells : Tells told old.site) (after : List Entry) → added_since told counts port lines opening entries ++ old.lost ≡ after → AreLeft told counts port lines opening mid.site after
+  left_mid tells after is =
+      left_still told counts port lines opening old.site mid.site entries old.lost after (asked.run tells).past is kept.entries is_history
+      (λ moment image low high at. held_old tells image ((asked.run tells).images_stand moment image low high at)) (kept.where_told tells).left
+
+  since_mid : added_since told counts port lines opening entries ++ old.lost ≡ added_since told counts port lines opening mid.journal.entries ++ mid.lost
+  since_mid = ap (λ (l : List Entry). drop (length opening.entries) entries ++ l) (sym asked.lost) ∙ ap (λ (l : List Entry). drop (length opening.entries) l ++ mid.lost) (sym asked.entries)
+
   -- the cards went on while the port worked
   gone_mid : (tells : Tells told old.site) → IsFair told counts port lines opening mid.site → (after : C) → told.choice_at mid.site (told.clock mid.site) after
       → (start : C) × told.choice_at old.site (told.clock old.site) start
@@ -200,7 +213,9 @@ module _ {D B C : Type 0} (told : Meaning D B C) (counts : D → Counts) (port :
         record {
           later = later_mid told_old;
           heard = λ fresh. absurd (differ mid.is_stale gone fresh);
-          stale = λ stale image at. ([], omega arith, subst (λ (l : List Entry). Holds opening.lane opening.lanes l image) (sym (append-nil mid.journal.entries ∙ asked.entries)) (held_mid told_old image at));
+          few = subst (λ (l : List Entry). length l ≤ 16) (sym asked.lost) (kept.where_told told_old).few;
+          stale = λ stale image at. inl (subst (λ (l : List Entry). Holds opening.lane opening.lanes l image) (sym asked.entries) (held_mid told_old image at));
+          left = left_mid told_old (added_since told counts port lines opening mid.journal.entries ++ mid.lost) since_mid;
           fair = λ fair. subst (λ (l : List Entry). KeptFair told counts port lines opening mid.site l) (sym asked.entries) (fair_fault (asked_mid told_old fair));
           all = λ fresh fair response due. absurd (differ mid.is_stale gone fresh);
         });
@@ -245,7 +260,9 @@ module _ {D B C : Type 0} (told : Meaning D B C) (counts : D → Counts) (port :
                 none told_old ∙ heard.1 ∙ sym (ap (λ (p : PortState). p.given ++ heard.0) start),
                 keeps_as (past_of heard.0) old.heard.pieces mid.heard.pieces asked.kept heard.2,
               ));
+          few = subst (λ (l : List Entry). length l ≤ 16) (sym asked.lost) was.few;
           stale = λ gone. absurd (differ mid.is_stale gone fresh);
+          left = left_mid told_old (added_since told counts port lines opening mid.journal.entries ++ mid.lost) since_mid;
           fair = λ fair. subst (λ (l : List Entry). KeptFair told counts port lines opening mid.site l) (sym asked.entries) (fair_none (asked_mid told_old fair) (all_now fair));
           all = λ is fair response due. subst (λ (l : List Entry). IsSettled l response) (sym asked.entries) (all_now fair response due);
         });
@@ -322,14 +339,35 @@ module _ {D B C : Type 0} (told : Meaning D B C) (counts : D → Counts) (port :
       keeps_new : Keeps RESPONSE (past_of (messages ++ message ∷ [])) new.heard.pieces
       keeps_new = subst (λ (past : List OfCard). Keeps RESPONSE past new.heard.pieces) (sym (past_of-push messages message)) (heard.keeps (past_of messages) keeps_mid)
 
+      -- a stop leaves the history as it was, or with what is settled
+      left_new : (after : List Entry) → added_since told counts port lines opening entries ++ settles ≡ after → AreLeft told counts port lines opening new.site after
+      left_new after is =
+          let since = added_since told counts port lines opening entries in
+          let due = batch told counts port lines opening mid.site new.site entries by (moment_for old) messages message in
+          left_on told counts port lines opening mid.site new.site (since ++ old.lost) settles after run_new.past
+          (ap (λ (l : List Entry). (since ++ l) ++ settles) (of.whole live) ∙ ap (λ (l : List Entry). l ++ settles) (append-nil since) ∙ is) (left_mid tells (since ++ old.lost) refl)
+          (λ moment image history low high at stands.
+          subst (λ (l : List Entry). IsWithFirst told counts port lines opening history l) (ap (λ (l : List Entry). since ++ l) (sym is_batch) ∙ is)
+          (⊎_elim
+          (λ held. held_first told counts port lines opening entries due image history kept.entries is_history held stands)
+          (λ held. held_more told counts port lines opening entries due image history kept.entries more_history held stands)
+          (run_new.each moment image low high at)))
+
       -- with the settlement
-      told_heard : new.journal.entries ≡ entries ++ settles → new.is_stale ≡ false → KeptTold told counts port lines opening new.site new.journal.entries new.is_stale new.heard.pieces
-      told_heard is live_new =
+      told_heard : new.journal.entries ≡ entries ++ settles → new.lost ≡ mid.lost → new.is_stale ≡ false
+          → KeptTold told counts port lines opening new.site new.journal.entries new.lost new.is_stale new.heard.pieces
+      told_heard is lost live_new =
           let same : new.journal.entries ≡ entries ++ batch told counts port lines opening mid.site new.site entries by (moment_for old) messages message = is ∙ ap (λ (l : List Entry). entries ++ l) is_batch in
           record {
             later = run_later;
             heard = λ still. (messages ++ message ∷ [], given_new, keeps_new);
+            few = subst (λ (l : List Entry). length l ≤ 16) (sym (lost ∙ asked.lost)) (kept.where_told tells).few;
             stale = λ gone. absurd (differ new.is_stale gone live_new);
+            left = left_new (added_since told counts port lines opening new.journal.entries ++ new.lost)
+                (sym (drop-append-le (length opening.entries) entries settles (no_shorter told counts port lines opening entries kept.entries))
+                ∙ sym (append-nil (drop (length opening.entries) (entries ++ settles)))
+                ∙ ap (λ (l : List Entry). drop (length opening.entries) (entries ++ settles) ++ l) (sym (lost ∙ asked.lost ∙ of.whole live))
+                ∙ ap (λ (l : List Entry). drop (length opening.entries) l ++ new.lost) (sym is));
             fair = λ fair. subst (λ (l : List Entry). KeptFair told counts port lines opening new.site l) (sym same)
                 (fair_heard told counts port lines opening mid.site new.site entries by (moment_for old) messages message run_new (later_mid tells) given_mid (asked_mid tells (fair_mid fair))
                 (no_shorter told counts port lines opening entries kept.entries) (during_new (fair_mid fair)));
@@ -342,18 +380,20 @@ module _ {D B C : Type 0} (told : Meaning D B C) (counts : D → Counts) (port :
           differ false is isnt = cc
 
       -- after a fault of the journal
-      told_stopped : new.journal.entries ≡ entries → new.is_stale ≡ true → AreRisen opening.counts (counts new.site) → KeptTold told counts port lines opening new.site new.journal.entries new.is_stale new.heard.pieces
-      told_stopped is gone risen = record {
+      told_stopped : new.journal.entries ≡ entries → new.lost ≡ settled_by by mid message.0 heard.push → new.is_stale ≡ true → AreRisen opening.counts (counts new.site)
+          → KeptTold told counts port lines opening new.site new.journal.entries new.lost new.is_stale new.heard.pieces
+      told_stopped is lost gone risen = record {
         later = run_later;
         heard = λ still. absurd (differ new.is_stale gone still);
+        few = subst (λ (l : List Entry). length l ≤ 16) (sym lost) (few (moment_for mid) (due_by (answer_to_push mid.journal.entries message.0 heard.push) (response_by mid.journal.entries message.0 heard.push)));
         stale = λ is_gone image at. ⊎_elim
-            (λ holds. ([], omega arith, subst (λ (l : List Entry). Holds opening.lane opening.lanes l image) (sym (append-nil new.journal.entries ∙ is)) holds))
-            (λ holds. (
-              batch told counts port lines opening mid.site new.site entries by (moment_for old) messages message,
-              few (due_in entries (past_of messages) (message_of message)),
-              subst (λ (l : List Entry). Holds opening.lane opening.lanes (l ++ batch told counts port lines opening mid.site new.site entries by (moment_for old) messages message) image) (sym is) holds,
-            ))
+            (λ holds. inl (subst (λ (l : List Entry). Holds opening.lane opening.lanes l image) (sym is) holds))
+            (λ holds. inr (
+            subst (λ (l : List Entry). Holds opening.lane opening.lanes (l ++ new.lost) image) (sym is)
+            (subst (λ (l : List Entry). Holds opening.lane opening.lanes (entries ++ l) image) (sym (lost ∙ settles_same ∙ is_batch)) holds)))
             (run_new.each (told.clock new.site) image run_new.past.later (omega arith) at);
+        left = left_new (added_since told counts port lines opening new.journal.entries ++ new.lost)
+            (ap (λ (l : List Entry). drop (length opening.entries) entries ++ l) (sym (lost ∙ settles_same)) ∙ ap (λ (l : List Entry). drop (length opening.entries) l ++ new.lost) (sym is));
         fair = λ fair. subst (λ (l : List Entry). KeptFair told counts port lines opening new.site l) (sym is)
             (fair_stopped told counts port lines opening mid.site new.site entries by (moment_for old) messages message run_new (later_mid tells) given_mid (asked_mid tells (fair_mid fair)) risen (during_new (fair_mid fair)));
         all = λ still. absurd (differ new.is_stale gone still);
@@ -363,9 +403,9 @@ module _ {D B C : Type 0} (told : Meaning D B C) (counts : D → Counts) (port :
           differ true is isnt = cc
           differ false is isnt = cc
 
-          few : (o : Option Response) → length (settlements by (moment_for old) o) ≤ 16
-          few None = omega arith
-          few (Some response) = omega arith
+          few : (moment : ℕ) (o : Option Response) → length (settlements by moment o) ≤ 16
+          few moment None = omega arith
+          few moment (Some response) = omega arith
 
     entries_since : (more : List Entry) → new.journal.entries ≡ entries ++ more → opening.entries ++ added_since told counts port lines opening new.journal.entries ≡ new.journal.entries
     entries_since more is =
@@ -383,24 +423,24 @@ module _ {D B C : Type 0} (told : Meaning D B C) (counts : D → Counts) (port :
     told_before : Tells told new.site → Tells told old.site
     told_before tells = subst IsTrue (tells_new ∙ asked.tells) tells
 
-    pub kept_heard : new.journal.entries ≡ entries ++ settles → new.is_stale ≡ false → KeptSince told counts port lines opening new
-    kept_heard is live_new = record {
+    pub kept_heard : new.journal.entries ≡ entries ++ settles → new.lost ≡ mid.lost → new.is_stale ≡ false → KeptSince told counts port lines opening new
+    kept_heard is lost live_new = record {
       lane_is = heard.rest.lane ∙ asked.rest.lane ∙ kept.lane_is;
       lanes_are = heard.rest.lanes ∙ asked.rest.lanes ∙ kept.lanes_are;
       entries = entries_since settles is;
       faults = faults_since;
       wants = wants_since;
-      where_told = λ tells. told_heard (told_before tells) is live_new;
+      where_told = λ tells. told_heard (told_before tells) is lost live_new;
     }
 
-    pub kept_stopped : new.journal.entries ≡ entries → new.is_stale ≡ true → HasRisen (counts mid.site).faults (counts new.site).faults ⊎ HasRisen (counts mid.site).wants (counts new.site).wants → KeptSince told counts port lines opening new
-    kept_stopped is gone risen = record {
+    pub kept_stopped : new.journal.entries ≡ entries → new.lost ≡ settled_by by mid message.0 heard.push → new.is_stale ≡ true → HasRisen (counts mid.site).faults (counts new.site).faults ⊎ HasRisen (counts mid.site).wants (counts new.site).wants → KeptSince told counts port lines opening new
+    kept_stopped is lost gone risen = record {
       lane_is = heard.rest.lane ∙ asked.rest.lane ∙ kept.lane_is;
       lanes_are = heard.rest.lanes ∙ asked.rest.lanes ∙ kept.lanes_are;
       entries = entries_since [] (is ∙ sym (append-nil entries));
       faults = faults_since;
       wants = wants_since;
-      where_told = λ tells. told_stopped (told_before tells) is gone (since risen);
+      where_told = λ tells. told_stopped (told_before tells) is lost gone (since risen);
     }
       where
         since : HasRisen (counts mid.site).faults (counts new.site).faults ⊎ HasRisen (counts mid.site).wants (counts new.site).wants → AreRisen opening.counts (counts new.site)
@@ -467,3 +507,25 @@ module _ {D B C : Type 0} (told : Meaning D B C) (counts : D → Counts) (port :
           let run = run_new tells in
           let same : (port_now told port lines new.site).given ≡ (port_now told port lines mid.site).given = ap (λ b. (port b).given) (run.stands (told.clock new.site) run.past.later (omega arith)) in
           subst (λ (m : CardId × List ℕ). IsPollingRun told port lines old new by past m) (same_last (port_now told port lines old.site).given message other (sym (given tells) ∙ sym same ∙ also)) (run_heard is past keeps)
+
+      run_stopped : new.lost ≡ settled_by by mid message.0 heard.push → 1 ≤ length (settled_by by mid message.0 heard.push) → (past : List OfCard) → Keeps RESPONSE past old.heard.pieces
+          → IsStoppedRun told port lines old new by past message
+      run_stopped lost some past keeps =
+          let found = gives_new past keeps in
+          let due : settled_by by mid message.0 heard.push ≡ settlements by (moment_for old) (due_in entries past (message_of message)) =
+          settles_same ∙ ap (λ (p : Push). settled_by by old message.0 p) (heard.makes past (keeps_as past old.heard.pieces mid.heard.pieces asked.kept keeps)) in
+          record {
+            positions = found.positions;
+            given = found.given;
+            runs = λ chosen sent before.
+                subst (λ (l : List Entry). Runs (world_of entries (port_now told port lines new.site) chosen sent before) (map giving found.positions ++ Begin l ∷ [])
+                (record (world_of entries (port_now told port lines new.site) chosen sent (before ++ found.positions)) { batch = Some l })) (sym (lost ∙ due))
+                (found.begins (subst (λ (l : List Entry). 1 ≤ length l) due some) chosen sent before);
+          }
+
+      pub events_stopped : new.lost ≡ settled_by by mid message.0 heard.push → 1 ≤ length (settled_by by mid message.0 heard.push) → (past : List OfCard) → Keeps RESPONSE past old.heard.pieces
+          → (other : CardId × List ℕ) → (port_now told port lines new.site).given ≡ (port_now told port lines old.site).given ++ other ∷ [] → IsStoppedRun told port lines old new by past other
+      events_stopped lost some past keeps other also =
+          let run = run_new tells in
+          let same : (port_now told port lines new.site).given ≡ (port_now told port lines mid.site).given = ap (λ b. (port b).given) (run.stands (told.clock new.site) run.past.later (omega arith)) in
+          subst (λ (m : CardId × List ℕ). IsStoppedRun told port lines old new by past m) (same_last (port_now told port lines old.site).given message other (sym (given tells) ∙ sym same ∙ also)) (run_stopped lost some past keeps)

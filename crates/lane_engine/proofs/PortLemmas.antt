@@ -1,7 +1,6 @@
 -- What calls of the port leave: a site that stays sound, and cards that went on.
-use Rattle.std.proofs.Common.{◌≡◌, ◌⊎◌, inl, inr, ℕ, ◌+◌, ◌==◌, ◌≤◌, Bool, true, false, Option, Some, None, Result, Ok, List, [], ◌∷◌, ◌++◌, length, map, slice_get, refl, sym, ◌∙◌, ap, subst, arith, length-append}
+use Rattle.std.proofs.Common.{◌≡◌, ◌⊎◌, inl, inr, ℕ, ◌+◌, ◌==◌, ◌≤◌, Bool, true, false, Some, Result, Ok, List, [], ◌∷◌, ◌++◌, length, map, slice_get, refl, sym, ◌∙◌, ap, subst, arith, length-append}
 use Rattle.std.proofs.lemmas.Bool.Decides.{nat_tests}
-use Rattle.std.proofs.lemmas.Grind.{common_steps}
 use Rattle.disk_model.specs.Disk.{Meaning, image_now}
 use Rattle.ota_core.specs.Keyset.{Keyset}
 use Rattle.ota_core.specs.Questions.{opened_facts}
@@ -9,7 +8,6 @@ use Rattle.ota_core.specs.declared.cards.CardId.{CardId}
 use Rattle.ota_core.specs.declared.cards.CardFacts.{CardFacts}
 use Rattle.ota_core.specs.declared.entries.Entry.{Entry}
 use Rattle.ota_core.specs.declared.entries.Entry.TheVariants.{Open, Reserve, Done, Refused, Close}
-use Rattle.ota_core.specs.declared.jobs.JobId.{JobId}
 use Rattle.ota_core.specs.declared.keysets.KeysetFacts.{KeysetFacts}
 use Rattle.command_packet.specs.Carried.{carries}
 use Rattle.command_packet.specs.declared.opening.Command.{Command}
@@ -19,16 +17,15 @@ use Rattle.counter_journal.specs.EntryRanges.{IsHistory}
 use Rattle.gate_log.specs.Reading.{parts_of}
 use Rattle.counter_journal.specs.Journal.{journal_head}
 use Rattle.counter_journal.specs.JournalReading.{Holds, IsReady, JournalValue}
-use Rattle.counter_journal.specs.Standing.{StandsFor}
 use Rattle.site_model.specs.Port.{PortState}
 use Rattle.site_model.specs.Cards.{Grows, IsFurther, IsLineOf, IsOfCards, IsTaken, Keeps, port_at, port_now}
 use Rattle.site_model.specs.Runs.{PortRun}
 use Rattle.site_model.specs.declared.departures.Departure.{Departure}
 use Rattle.world_core.specs.Card.{CardState, is_card, log_of, IsCardState}
 use Rattle.world_core.specs.Headline.{all_lines, IsReserved, IsTrueAnswer}
-use Rattle.world_core.specs.MemberLaws.{In-left, In-right, In-cases, In-map, In-flat_map, In-from_flat_map, map-some, slice_get-In, and_then-some}
-use Rattle.world_core.specs.Members.{In, Begins}
-use Rattle.world_core.specs.Packet.{Packet, packet_at, packet_of}
+use Rattle.world_core.specs.MemberLaws.{In-left, In-cases, In-map, In-flat_map, In-from_flat_map, map-some, slice_get-In, and_then-some}
+use Rattle.world_core.specs.Members.{In}
+use Rattle.world_core.specs.Packet.{Packet, packet_of}
 use Rattle.world_core.specs.Sound.{IsSound, IsReservedLine, CardsWentOn}
 use Rattle.world_core.specs.WorldLaws.{IsSound-cards, log_of-In}
 use Rattle.world_core.specs.declared.answers.Made.{Made}
@@ -37,7 +34,7 @@ use Rattle.world_core.specs.declared.segments.Sent.{Sent}
 use Rattle.world_core.proofs.HistoryFacts.{packet_at-entry}
 use Rattle.lane_engine.specs.Packets.{keys_of, octets_of, spi_of}
 use Rattle.lane_engine.specs.Sound.{IsSoundState, SoundAt}
-use Rattle.lane_engine.specs.Unforged.{UnforgedSince, IsBrought, Stood}
+use Rattle.lane_engine.specs.Unforged.{UnforgedSince, IsBrought}
 use Rattle.lane_engine.specs.World.{world_of, cards_of, IsPieceOf, AreSent}
 use Rattle.lane_engine.proofs.AddingLemmas.{stands_as}
 

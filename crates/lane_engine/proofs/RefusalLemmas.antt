@@ -1,10 +1,9 @@
 -- Calls that do nothing: what the history refuses, and want of memory before the first call of the site.
-use Rattle.std.proofs.Common.{◌≡◌, ◌⊎◌, inl, inr, ℕ, ◌+◌, ◌≤◌, nat_le, Bool, true, false, not, Option, Some, None, Result, Ok, Err, List, [], ◌∷◌, ◌++◌, length, take, if◌then◌else◌, refl, sym, ◌∙◌, ap, subst, arith, append-nil}
+use Rattle.std.proofs.Common.{◌≡◌, ℕ, nat_le, Bool, true, false, not, Option, Some, None, Err, List, [], ◌∷◌, length, if◌then◌else◌, refl, sym, ◌∙◌, ap, subst, arith, append-nil}
 use Rattle.std.specs.Option.{option_or}
 use Rattle.std.specs.List.{list_any}
 use Rattle.disk_model.specs.Counts.{Counts}
 use Rattle.disk_model.specs.Disk.{Meaning, Tells}
-use Rattle.disk_model.specs.Runs.{past_at_once}
 use Rattle.ota_core.specs.Entry.{Reservation, is_refusal_of, is_reserve_of, is_settlement_of}
 use Rattle.ota_core.specs.History.{last_reservation, next_counter, LAST_COUNTER}
 use Rattle.ota_core.specs.Questions.{state_of}
@@ -13,12 +12,10 @@ use Rattle.ota_core.specs.declared.jobs.Job.{Job}
 use Rattle.ota_core.specs.declared.questions.KeysetState.{KeysetState}
 use Rattle.ota_core.specs.declared.questions.KeysetState.TheVariants as state
 use Rattle.site_model.specs.Port.{PortState}
-use Rattle.site_model.specs.Cards.{port_now}
 use Rattle.site_model.specs.declared.departures.Departure.{Departure}
 use Rattle.world_core.specs.declared.lines.Line.{Line}
 use Rattle.lane_engine.specs.Adding.{AddingAnswer, AnswerCause, IsAddition, IsAddingRun, IsNoFault, LaneCause, adding_events, batch_left}
 use Rattle.lane_engine.specs.Departing.{AreHandedOver, IsResent, IsSending, IsUnasked, ResendAnswer, ResendingEvents, SendingEvents}
-use Rattle.lane_engine.specs.Kept.{IsLater}
 use Rattle.lane_engine.specs.LaneValue.{LaneValue, IsLane, IsSameLane}
 use Rattle.lane_engine.specs.Reserving.{counter_refusal, job_refusal, jobs_refusal, resend_refusal, reserve_of, state_refusal, taken_refusal}
 use Rattle.lane_engine.specs.declared.answers.LaneErr.{LaneErr}
@@ -140,7 +137,8 @@ same_lane lane = record {
   entries = refl;
   length = refl;
   is_stale = refl;
-  rest = record { element = refl; pieces = refl; lane = refl; lanes = refl; settings = record { moment = refl; name = refl; end = refl } };
+  lost = refl;
+  rest = record { element = refl; pieces = refl; lane = refl; lanes = refl; settings = record { moment = refl; name = refl; end = refl; opened = refl } };
 }
 
 pub none_added : {D : Type 0} (lane : LaneValue D) (batch : List Entry) (error : LaneErr) → IsNoFault error → IsAddition lane lane batch (Err error)
@@ -187,19 +185,6 @@ none_cause counts error is =
 module _ {D B C : Type 0} (told : Meaning D B C) (counts : D → Counts) (port : B → PortState) (lines : C → ℕ → List Line) (lane : LaneValue D) where
   pub none_run : (batch : List Entry) (error : LaneErr) → IsNoFault error → IsLane told lane → Tells told lane.site → IsAddingRun told port lines lane lane batch (Err error)
   none_run batch error is of tells = (let none = no_events batch error is in refused_run told port lines lane batch (Err error) of tells none.0 none.1)
-
-  pub none_later : IsLater told counts port lines lane lane
-  none_later = record {
-    lane = refl;
-    lanes = refl;
-    entries = ([], sym (append-nil lane.journal.entries));
-    faults = omega arith;
-    wants = omega arith;
-    tells = refl;
-    past = λ tells. past_at_once told lane.site;
-    polls = λ tells. omega arith;
-    stale = λ is. is;
-  }
 
   pub none_sending_events : (batch : List Entry) (error : LaneErr) → IsNoFault error → SendingEvents told port lines lane lane batch (Err error)
   none_sending_events batch error is =

@@ -1,8 +1,7 @@
 -- A reservation that is sent again.
-use Rattle.std.proofs.Common.{◌≡◌, ℕ, Option, Some, None, Result, Ok, Err, List, ◌++◌, map, take, refl, sym, ap, subst}
+use Rattle.std.proofs.Common.{◌≡◌, ℕ, Option, Some, Result, Ok, Err, List, refl, sym, ap, subst}
 use Rattle.disk_model.specs.Disk.{Meaning, Tells}
 use Rattle.ota_core.specs.Entry.{Reservation}
-use Rattle.ota_core.specs.declared.entries.Entry.{Entry}
 use Rattle.counter_journal.specs.JournalReading.{JournalValue}
 use Rattle.site_model.specs.Port.{PortState}
 use Rattle.site_model.specs.Cards.{port_now}

@@ -1,8 +1,8 @@
 -- Jobs that are reserved one behind the other.
-use Rattle.std.proofs.Common.{◌≡◌, ◌⊎◌, inl, inr, ℕ, ◌+◌, ◌≤◌, ◌<◌, zero, suc, nat_le, Bool, false, true, ◌==◌, ◌||◌, cond, if◌then◌else◌, Option, Some, None, List, [], ◌∷◌, ◌++◌, length, take, drop, get_or, All, refl, sym, ◌∙◌, ap, subst, arith}
+use Rattle.std.proofs.Common.{◌≡◌, ℕ, ◌+◌, ◌≤◌, ◌<◌, zero, suc, nat_le, Bool, false, true, ◌==◌, cond, if◌then◌else◌, Option, Some, None, List, [], ◌∷◌, ◌++◌, length, take, drop, get_or, All, refl, sym, ◌∙◌, ap, subst, arith}
 use Rattle.std.proofs.Math.Seq.{take-suc, drop-cons}
 use Rattle.std.specs.Option.{option_or}
-use Rattle.std.specs.List.{list_any, count_by}
+use Rattle.std.specs.List.{list_any}
 use Rattle.std.proofs.lemmas.Grind.{common_steps}
 use Rattle.std.proofs.lemmas.Bool.Decides.{nat_tests}
 use Rattle.std.proofs.lemmas.List.Elements.{All-cons}
@@ -19,7 +19,7 @@ use Rattle.ota_core.specs.declared.jobs.JobId.{JobId}
 use Rattle.ota_core.specs.declared.questions.KeysetState.{KeysetState}
 use Rattle.ota_core.specs.declared.questions.KeysetState.TheVariants as state
 use Rattle.counter_journal.specs.EntryRanges.{IsOfLane, IsSized}
-use Rattle.counter_journal.specs.JournalLaws.{All-first, All-rest, All-none}
+use Rattle.counter_journal.specs.JournalLaws.{All-none}
 use Rattle.lane_engine.specs.Adding.{is_settlement}
 use Rattle.lane_engine.specs.Reserving.{AreOthers, IsJobOf, JobsDiffer, counter_refusal, job_refusal, jobs_refusal, next_behind, refusal_behind, reserve_of, reserves_of, state_refusal, taken_refusal}
 use Rattle.lane_engine.specs.declared.answers.LaneErr.{LaneErr}

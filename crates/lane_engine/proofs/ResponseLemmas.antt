@@ -1,12 +1,11 @@
 -- What the table of answers says of a response, and the keysets under which it is tried.
-use Rattle.std.proofs.Common.{◌≡◌, ◌⊎◌, inl, inr, ℕ, suc, ◌+◌, ◌-◌, ◌≤◌, ◌<◌, ◌&&◌, nat_le, min, Bool, true, false, not, if◌then◌else◌, is_some, find, Option, Some, None, List, [], ◌∷◌, length, take, drop, reverse, refl, sym, ◌∙◌, ap, subst, arith}
+use Rattle.std.proofs.Common.{◌≡◌, ℕ, suc, ◌+◌, ◌-◌, ◌≤◌, ◌<◌, ◌&&◌, nat_le, Bool, true, false, not, is_some, find, Option, Some, None, List, [], ◌∷◌, length, take, drop, refl, sym, ◌∙◌, ap, arith}
 use Rattle.std.specs.Option.{option_map, option_or}
 use Rattle.std.specs.List.{list_any, range_with_len}
 use Rattle.std.proofs.lemmas.List.{length-take, length-drop}
 use Rattle.ota_core.specs.Entry.{Reservation, is_reserve_of, is_settlement_of}
 use Rattle.ota_core.specs.History.{first_some}
 use Rattle.ota_core.specs.Questions.{state_of}
-use Rattle.ota_core.specs.declared.cards.CardId.{CardId}
 use Rattle.ota_core.specs.declared.entries.Entry.{Entry}
 use Rattle.ota_core.specs.declared.entries.Entry.TheVariants.{Open, Reserve, Done, Refused, Close}
 use Rattle.ota_core.specs.declared.questions.KeysetState.{KeysetState}
@@ -14,9 +13,8 @@ use Rattle.ota_core.specs.declared.questions.KeysetState.TheVariants as state
 use Rattle.keyset_book.specs.Answers.{settled_in}
 use Rattle.keyset_book.specs.declared.answers.Settled.{Settled}
 use Rattle.response_packet.specs.Response.{settles}
-use Rattle.lane_engine.specs.Receipts.{Response, place_of, response_at, is_closed, is_receipt, answer_to_place, answer_to_receipt, answer_to_response}
+use Rattle.lane_engine.specs.Receipts.{Response, place_of, is_closed, is_receipt, answer_to_place, answer_to_receipt, answer_to_response}
 use Rattle.lane_engine.specs.Responses.{response_in_octets}
-use Rattle.lane_engine.specs.declared.answers.Poll.{Poll}
 use Rattle.lane_engine.specs.declared.answers.Poll.TheVariants as poll
 use Rattle.lane_engine.specs.declared.responses.ResponseIn.{ResponseIn}
 

@@ -1,5 +1,5 @@
 -- What a lane keeps through calls that hand packets over, and which events they are.
-use Rattle.std.proofs.Common.{◌≡◌, ◌⊎◌, inl, inr, ℕ, ◌+◌, ◌≤◌, IsTrue, Bool, false, true, Option, Some, None, Result, Ok, Err, OnOk, List, [], ◌∷◌, ◌++◌, length, map, take, reverse, refl, sym, ◌∙◌, ap, subst, arith, append-nil, append_assoc}
+use Rattle.std.proofs.Common.{◌≡◌, inl, ℕ, ◌+◌, ◌≤◌, Bool, false, true, Result, List, [], ◌∷◌, ◌++◌, length, drop, map, take, refl, sym, ◌∙◌, ap, subst, arith, append-nil, append_assoc}
 use Rattle.std.proofs.Math.Seq.{take-append_seam}
 use Rattle.std.proofs.lemmas.List.{append_cancel_left}
 use Rattle.disk_model.specs.Counts.{Counts}
@@ -12,23 +12,21 @@ use Rattle.site_model.specs.Port.{PortState}
 use Rattle.site_model.specs.Cards.{port_at, port_now}
 use Rattle.site_model.specs.Runs.{PortRun}
 use Rattle.site_model.specs.declared.departures.Departure.{Departure}
-use Rattle.world_core.specs.Headline.{IsReserved}
-use Rattle.world_core.specs.Members.{In}
-use Rattle.world_core.specs.MemberLaws.{In-left}
 use Rattle.world_core.specs.Run.{Runs}
 use Rattle.world_core.specs.Sound.{CardsWentOn}
-use Rattle.world_core.specs.declared.events.Event.{Event}
 use Rattle.world_core.specs.declared.lines.Line.{Line}
 use Rattle.world_core.specs.declared.segments.Sent.{Sent}
 use Rattle.lane_engine.specs.Departing.{AreFirst, HaveCardsGoneOn, IsSendingRun, IsUnasked, leaving}
-use Rattle.lane_engine.specs.Kept.{Opening, KeptSince, KeptFair, IsFair, IsLater}
+use Rattle.lane_engine.specs.Kept.{KeptSince, KeptFair, IsFair, IsLater, added_since}
+use Rattle.lane_engine.specs.Opening.{Opening}
 use Rattle.lane_engine.specs.LaneValue.{LaneValue, IsLane, IsSameHearing}
-use Rattle.lane_engine.specs.Sending.{AreAllHanded, AreHanded, HandsOver, HandsOverBuilt}
+use Rattle.lane_engine.specs.Sending.{AreAllHanded, AreHanded, HandsOverBuilt}
 use Rattle.lane_engine.specs.Sound.{SoundAt}
 use Rattle.lane_engine.specs.World.{world_of, cards_of, AreSent}
 use Rattle.lane_engine.specs.declared.answers.LaneErr.{LaneErr}
 use Rattle.lane_engine.proofs.AppendLemmas.{kept_calls}
 use Rattle.lane_engine.proofs.KeptLemmas.{SoundIn, fair_before}
+use Rattle.lane_engine.proofs.LeftLemmas.{left_still}
 use Rattle.lane_engine.proofs.LeavingLemmas.{AreReserved, first_reserved, leaves_run, sent_split}
 use Rattle.lane_engine.proofs.PortLemmas.{SendsReserved, port_gone_on, port_ready, port_sound}
 
@@ -142,7 +140,7 @@ module _ {D B C : Type 0} (told : Meaning D B C) (port : B → PortState) (lines
 module _ {D B C : Type 0} (told : Meaning D B C) (counts : D → Counts) (port : B → PortState) (lines : C → ℕ → List Line) (old new : LaneValue D)
     (departures : List Departure) (pieces : List Sent) (result : Result (Unit {0}) LaneErr)
     (of : IsLane told old) (live : old.is_stale ≡ false) (seen : Tells told old.site → image_now told old.site (told.seen old.site))
-    (journal : new.journal ≡ old.journal) (rest : IsSameHearing old new) (same : told.tells new.site ≡ told.tells old.site)
+    (journal : new.journal ≡ old.journal) (lost : new.lost ≡ old.lost) (rest : IsSameHearing old new) (same : told.tells new.site ≡ told.tells old.site)
     (faults : (counts old.site).faults ≤ (counts new.site).faults) (wants : (counts old.site).wants ≤ (counts new.site).wants)
     (hands : Tells told old.site → HandsOverBuilt told port lines old.journal.entries old.site new.site departures pieces result)
     (reserved : AreReserved old.journal.entries pieces) where
@@ -198,12 +196,14 @@ module _ {D B C : Type 0} (told : Meaning D B C) (counts : D → Counts) (port :
         let entries : new.journal.entries ≡ old.journal.entries = ap (λ (j : JournalValue). j.entries) journal in
         kept_calls told counts port lines opening old new kept live [] (entries ∙ sym (append-nil old.journal.entries)) refl rest same faults wants past
         (λ tells. hands_still told port lines old.journal.entries old.site new.site departures pieces result (hands tells) reserved) during
-        (λ tells gone image at. (
-          [],
-          omega arith,
-          subst (λ (l : List Entry). Holds opening.lane opening.lanes l image) (sym (append-nil new.journal.entries ∙ entries))
-              (holds_then tells image ((hands tells).run.moments.images_stand (told.clock new.site) image (hands tells).run.moments.past.later (omega arith) at)),
-        ))
+        (λ tells gone image at. inl (
+        subst (λ (l : List Entry). Holds opening.lane opening.lanes l image) (sym entries)
+        (holds_then tells image ((hands tells).run.moments.images_stand (told.clock new.site) image (hands tells).run.moments.past.later (omega arith) at))))
+        (λ tells. subst (λ (l : List Entry). length l ≤ 16) (sym lost) (kept.where_told tells).few)
+        (λ tells.
+        left_still told counts port lines opening old.site new.site old.journal.entries old.lost (added_since told counts port lines opening new.journal.entries ++ new.lost) (past tells)
+        (ap (λ (l : List Entry). drop (length opening.entries) old.journal.entries ++ l) (sym lost) ∙ ap (λ (l : List Entry). drop (length opening.entries) l ++ new.lost) (sym entries)) kept.entries history_then
+        (λ moment image low high at. holds_then tells image ((hands tells).run.moments.images_stand moment image low high at)) (kept.where_told tells).left)
 
     -- the cards went on meanwhile
     pub sent_gone_on : Tells told old.site → IsFair told counts port lines opening new.site → HaveCardsGoneOn told port lines old new

@@ -1,7 +1,7 @@
 -- The settlement of a receipt: the answer that it is of, and the world behind it.
-use Rattle.std.proofs.Common.{◌≡◌, ◌⊎◌, inl, inr, ℕ, zero, suc, ◌+◌, ◌≤◌, ◌<◌, ◌==◌, ◌&&◌, ◌||◌, nat_le, nat_lt, Bool, true, false, if◌then◌else◌, is_none, Option, Some, None, List, [], ◌∷◌, ◌++◌, length, reverse, slice_get, refl, sym, ◌∙◌, ap, subst, arith}
-use Rattle.std.specs.Option.{option_map, option_or}
-use Rattle.std.specs.List.{list_any, list_all}
+use Rattle.std.proofs.Common.{◌≡◌, inl, inr, ℕ, zero, suc, ◌≤◌, ◌<◌, ◌==◌, ◌&&◌, ◌||◌, nat_lt, Bool, true, false, if◌then◌else◌, Some, None, List, [], ◌∷◌, ◌++◌, length, reverse, slice_get, refl, ◌∙◌, ap, subst, arith}
+use Rattle.std.specs.Option.{option_map}
+use Rattle.std.specs.List.{list_all}
 use Rattle.std.specs.Str.{bytes_eq}
 use Rattle.std.proofs.lemmas.Bool.{and_parts}
 use Rattle.std.proofs.lemmas.Bool.Decides.{nat_tests}
@@ -11,11 +11,10 @@ use Rattle.std.proofs.lemmas.Slice.Eq.{bytes_eq-Decides}
 use Rattle.ota_core.specs.Keyset.{Keyset, is_same_keyset}
 use Rattle.ota_core.specs.History.{broken_batch}
 use Rattle.ota_core.specs.HistoryLaws.{both_hold, is_same_keyset-true, is_same_keyset-refl}
-use Rattle.ota_core.specs.Questions.{state_of, last_moment}
+use Rattle.ota_core.specs.Questions.{last_moment}
 use Rattle.ota_core.specs.declared.cards.CardId.{CardId}
 use Rattle.ota_core.specs.declared.entries.Entry.{Entry}
 use Rattle.ota_core.specs.declared.entries.Entry.TheVariants as entry
-use Rattle.ota_core.specs.declared.questions.KeysetState.TheVariants as state
 use Rattle.counter_journal.specs.EntryRanges.{IsHistory}
 use Rattle.counter_journal.specs.JournalReading.{Holds}
 use Rattle.response_packet.specs.Response.{settles}
@@ -23,14 +22,12 @@ use Rattle.site_model.specs.Port.{PortState}
 use Rattle.sms_segments.specs.declared.assembling.Push.{Push}
 use Rattle.world_core.specs.Condition.{refused_unless, is_answer_with, passes, is_given, is_answered, begin_refusal, IsAllowed}
 use Rattle.world_core.specs.Effect.{world_step}
-use Rattle.world_core.specs.MemberLaws.{In-right, holds, none_before, list_any-from_In}
+use Rattle.world_core.specs.MemberLaws.{In-right, holds, list_any-from_In}
 use Rattle.world_core.specs.Members.{In}
-use Rattle.world_core.specs.Run.{Runs}
 use Rattle.world_core.specs.Settling.{SettlesReceipt}
 use Rattle.world_core.specs.Settling.{settlement_of as settles_made}
 use Rattle.world_core.specs.Sound.{IsSound}
 use Rattle.world_core.specs.WorldLaws.{receipt_settles}
-use Rattle.world_core.specs.WorldState.{WorldState}
 use Rattle.world_core.specs.declared.answers.Made.{Made}
 use Rattle.world_core.specs.declared.events.Event.TheVariants.{Begin, Seal, Give}
 use Rattle.world_core.specs.declared.lines.Line.{Line}
@@ -38,12 +35,12 @@ use Rattle.world_core.specs.declared.refusals.NotAllowed.TheVariants as refusal
 use Rattle.world_core.specs.declared.segments.Sent.{Sent}
 use Rattle.world_core.proofs.SoundLemmas.{IsSound-step}
 use Rattle.lane_engine.specs.Polling.{FirstMade}
-use Rattle.lane_engine.specs.Receipts.{Response, is_receipt, settlement_of}
+use Rattle.lane_engine.specs.Receipts.{Response, settlement_of}
 use Rattle.lane_engine.specs.Sound.{IsSoundState}
 use Rattle.lane_engine.specs.Unforged.{made_as}
 use Rattle.lane_engine.specs.World.{world_of, AreSent}
-use Rattle.lane_engine.proofs.AddingLemmas.{may_begin, batch_runs, sent_more, stands_as}
-use Rattle.lane_engine.proofs.DueLemmas.{IsDue, receipt_status, status_is}
+use Rattle.lane_engine.proofs.AddingLemmas.{sent_more, stands_as}
+use Rattle.lane_engine.proofs.DueLemmas.{IsDue, receipt_status}
 
 -- ---- the first place of an answer
 

@@ -1,5 +1,5 @@
 -- What is left where a packet of a card was taken.
-use Rattle.std.proofs.Common.{◌≡◌, ◌⊎◌, inl, inr, ℕ, ◌+◌, ◌≤◌, IsTrue, Bool, false, true, Option, Some, None, Result, Ok, Err, IfOk, List, [], ◌∷◌, ◌++◌, length, reverse, All, refl, sym, ◌∙◌, ap, subst, arith, append-nil, max}
+use Rattle.std.proofs.Common.{◌≡◌, inl, ℕ, ◌+◌, ◌≤◌, Bool, false, true, Option, Some, None, Result, Ok, Err, List, [], ◌∷◌, ◌++◌, length, reverse, All, refl, sym, ◌∙◌, ap, subst, arith, append-nil}
 use Rattle.std.proofs.Math.Nat.{le-max_right}
 use Rattle.disk_model.specs.Disk.{Meaning, Tells, DiskRun}
 use Rattle.disk_model.specs.Runs.{at_once}
@@ -11,7 +11,7 @@ use Rattle.ota_core.specs.declared.cards.CardId.{CardId}
 use Rattle.ota_core.specs.declared.entries.Entry.{Entry}
 use Rattle.counter_journal.specs.EntryRanges.{IsEntry, IsHistory, IsOfLane, IsSized}
 use Rattle.counter_journal.specs.JournalLaws.{All-none}
-use Rattle.counter_journal.specs.JournalReading.{Holds, IsSameJournal, JournalValue}
+use Rattle.counter_journal.specs.JournalReading.{IsSameJournal, JournalValue}
 use Rattle.counter_journal.specs.StandingLaws.{ready_holds}
 use Rattle.keyset_book.specs.Book.{needs_no_room}
 use Rattle.response_packet.specs.Opened.{unsecured_in}
@@ -21,9 +21,10 @@ use Rattle.sms_segments.specs.declared.concatenations.Concatenation.{Concatenati
 use Rattle.sms_segments.specs.declared.assembling.Push.{Push}
 use Rattle.sms_segments.specs.declared.assembling.Push.TheVariants as push
 use Rattle.lane_engine.specs.Adding.{moment_for, need_for}
+use Rattle.lane_engine.specs.Opening.{Opening}
 use Rattle.lane_engine.specs.LaneValue.{LaneValue, IsLane, IsSameHearing}
 use Rattle.lane_engine.specs.Polling.{LONGEST_SETTLEMENT, IsUnpolled, settlements}
-use Rattle.lane_engine.specs.Receipts.{LONGEST_DATA, RESPONSE, Response, answer_to_packet, answer_to_push, answer_to_response, due_by, is_receipt, message_of, response_by, response_of, settlement_of}
+use Rattle.lane_engine.specs.Receipts.{LONGEST_DATA, RESPONSE, Response, answer_to_packet, answer_to_push, answer_to_response, due_by, message_of, response_by, response_of, settlement_of}
 use Rattle.lane_engine.specs.Settling.{IsHeard, IsTaken, SettlingRun, settled_by}
 use Rattle.lane_engine.specs.Settling.{IsSettled as IsLeft}
 use Rattle.std.specs.Result.{IsErr, IsErrAnd}
@@ -43,7 +44,7 @@ pub nothing_settled : {D : Type 0} (by : ℕ) (old : LaneValue D) (card : CardId
 nothing_settled by old card made none = ap (λ (o : Option Response). settlements by (moment_for old) o) none
 
 same_hearing : {D : Type 0} (lane : LaneValue D) → IsSameHearing lane lane
-same_hearing lane = record { element = refl; pieces = refl; lane = refl; lanes = refl; settings = record { moment = refl; name = refl; end = refl } }
+same_hearing lane = record { element = refl; pieces = refl; lane = refl; lanes = refl; settings = record { moment = refl; name = refl; end = refl; opened = refl } }
 
 -- the lane is as it was
 pub taken_idle : {D : Type 0} (old : LaneValue D) (by : ℕ) (card : CardId) (made : Push) (answer : Poll) → old.is_stale ≡ false → answer ≡ answer_to_push old.journal.entries card made
@@ -52,7 +53,7 @@ taken_idle old by card made answer live is none =
     let nothing : settled_by by old card made ≡ [] = nothing_settled by old card made none in
     record {
       answer = is;
-      left = (sym (append-nil old.journal.entries) ∙ ap (λ (l : List Entry). old.journal.entries ++ l) (sym nothing), live);
+      left = (sym (append-nil old.journal.entries) ∙ ap (λ (l : List Entry). old.journal.entries ++ l) (sym nothing), live, refl);
       fits = subst (λ (l : List Entry). All IsEntry l) (sym nothing) (All-none IsEntry);
       rest = same_hearing old;
     }
@@ -146,10 +147,10 @@ module _ {D : Type 0} (old : LaneValue D) (by : ℕ) (card : CardId) (made : Pus
     alone_is = ap (λ (e : Entry). e ∷ []) is ∙ sym settled_is
 
     module _ (new : LaneValue D) (fits : All IsEntry (added ∷ [])) (rest : IsSameHearing old new) where
-      pub taken_settled : (answer : Poll) → answer ≡ answer_to_push old.journal.entries card made → new.journal.entries ≡ old.journal.entries ++ added ∷ [] → new.is_stale ≡ false → IsTaken old new by card made (Ok answer)
-      taken_settled answer says entries fresh = record {
+      pub taken_settled : (answer : Poll) → answer ≡ answer_to_push old.journal.entries card made → new.journal.entries ≡ old.journal.entries ++ added ∷ [] → new.is_stale ≡ false → new.lost ≡ old.lost → IsTaken old new by card made (Ok answer)
+      taken_settled answer says entries fresh same = record {
         answer = says;
-        left = (entries ∙ ap (λ (l : List Entry). old.journal.entries ++ l) alone_is, fresh);
+        left = (entries ∙ ap (λ (l : List Entry). old.journal.entries ++ l) alone_is, fresh, same);
         fits = subst (λ (l : List Entry). All IsEntry l) alone_is fits;
         rest = rest;
       }
@@ -163,7 +164,7 @@ module _ {D : Type 0} (old : LaneValue D) (by : ℕ) (card : CardId) (made : Pus
       }
         where
           by_error : (e : LaneErr) → IsLeft {T = Unit {0}} old new (added ∷ []) (Err e) → IsLeft {T = Poll} old new (settled_by by old card made) (Err e)
-          by_error (lane_err.SiteFault f) left = (left.0, left.1, subst (λ (l : List Entry). 1 ≤ length l) alone_is left.2)
+          by_error (lane_err.SiteFault f) left = (left.0, left.1, subst (λ (l : List Entry). 1 ≤ length l) alone_is left.2, left.3 ∙ alone_is)
           by_error lane_err.Memory left = absurd left
           by_error lane_err.Stale left = absurd left
           by_error (lane_err.Full long need) left = absurd left
@@ -179,18 +180,19 @@ module _ {D : Type 0} (old : LaneValue D) (by : ℕ) (card : CardId) (made : Pus
 -- ---- by the fields of a lane
 
 -- room alone is made
-pub unpolled_by : {D : Type 0} (site : D) (journal grown : JournalValue) (is_stale : Bool) (heard roomy : Kept) (moment : ℕ) (name : List ℕ) (end : Option LaneErr) (old : LaneValue D)
-    → lane_of site journal is_stale heard moment name end ≡ old → IsSameJournal journal grown → roomy.element ≡ heard.element → ((of : Concatenation) → kept_in roomy.pieces of ≡ kept_in heard.pieces of)
-    → IsUnpolled old (lane_of site grown is_stale roomy moment name end)
-unpolled_by {D = D} site journal grown is_stale heard roomy moment name end old view_is same element pieces =
-    subst (λ (v : LaneValue D). IsUnpolled v (lane_of site grown is_stale roomy moment name end)) view_is
+pub unpolled_by : {D : Type 0} (site : D) (journal grown : JournalValue) (is_stale : Bool) (heard roomy : Kept) (moment : ℕ) (name : List ℕ) (end : Option LaneErr) (opened : Opening) (lost : List Entry) (old : LaneValue D)
+    → lane_of site journal is_stale heard moment name end opened lost ≡ old → IsSameJournal journal grown → roomy.element ≡ heard.element → ((of : Concatenation) → kept_in roomy.pieces of ≡ kept_in heard.pieces of)
+    → IsUnpolled old (lane_of site grown is_stale roomy moment name end opened lost)
+unpolled_by {D = D} site journal grown is_stale heard roomy moment name end opened lost old view_is same element pieces =
+    subst (λ (v : LaneValue D). IsUnpolled v (lane_of site grown is_stale roomy moment name end opened lost)) view_is
     (record {
       site = refl;
       entries = same.entries;
       length = same.length;
       is_stale = refl;
+      lost = refl;
       kept = pieces;
-      rest = record { element = element; lane = same.lane; lanes = same.lanes; settings = record { moment = refl; name = refl; end = refl } };
+      rest = record { element = element; lane = same.lane; lanes = same.lanes; settings = record { moment = refl; name = refl; end = refl; opened = refl } };
     })
 
 pub same_journal : (journal : JournalValue) → IsSameJournal journal journal
@@ -214,16 +216,16 @@ taken_residual old new by card made response due added is fits rest error left (
 
 -- ---- a message was pushed
 
-module _ {D B C : Type 0} (told : Meaning D B C) (site : D) (journal : JournalValue) (is_stale : Bool) (heard pushed : Kept) (moment : ℕ) (name : List ℕ) (end : Option LaneErr) (old : LaneValue D)
-    (view_is : lane_of site journal is_stale heard moment name end ≡ old) (of : IsLane told (lane_of site journal is_stale heard moment name end)) (live : old.is_stale ≡ false)
+module _ {D B C : Type 0} (told : Meaning D B C) (site : D) (journal : JournalValue) (is_stale : Bool) (heard pushed : Kept) (moment : ℕ) (name : List ℕ) (end : Option LaneErr) (opened : Opening) (lost : List Entry) (old : LaneValue D)
+    (view_is : lane_of site journal is_stale heard moment name end opened lost ≡ old) (of : IsLane told (lane_of site journal is_stale heard moment name end opened lost)) (live : old.is_stale ≡ false)
     (by : ℕ) (message : CardId × List ℕ) (made : Push) (element : pushed.element ≡ heard.element)
     (makes : (past : List OfCard) → Keeps heard.element past heard.pieces → made ≡ answer_to heard.element past (message_of message))
     (keeps : (past : List OfCard) → Keeps heard.element past heard.pieces → Keeps heard.element (message_of message ∷ past) pushed.pieces) where
   abbrev before : LaneValue D
-  before = lane_of site journal is_stale heard moment name end
+  before = lane_of site journal is_stale heard moment name end opened lost
 
   abbrev between : LaneValue D
-  between = lane_of site journal is_stale pushed moment name end
+  between = lane_of site journal is_stale pushed moment name end opened lost
 
   makes_it : (past : List OfCard) → Keeps RESPONSE past heard.pieces → made ≡ answer_to RESPONSE past (message_of message)
   makes_it = subst (λ (n : ℕ). (past : List OfCard) → Keeps n past heard.pieces → made ≡ answer_to n past (message_of message)) of.element makes
@@ -243,7 +245,7 @@ module _ {D B C : Type 0} (told : Meaning D B C) (site : D) (journal : JournalVa
         answer = taken.answer;
         left = taken.left;
         fits = taken.fits;
-        rest = record { element = taken.rest.element ∙ element; lane = taken.rest.lane; lanes = taken.rest.lanes; settings = record { moment = taken.rest.settings.moment; name = taken.rest.settings.name; end = taken.rest.settings.end } };
+        rest = record { element = taken.rest.element ∙ element; lane = taken.rest.lane; lanes = taken.rest.lanes; settings = record { moment = taken.rest.settings.moment; name = taken.rest.settings.name; end = taken.rest.settings.end; opened = taken.rest.settings.opened } };
         run = run;
       })
 
@@ -261,6 +263,6 @@ module _ {D B C : Type 0} (told : Meaning D B C) (site : D) (journal : JournalVa
         answer = taken.answer;
         left = taken.left;
         fits = taken.fits;
-        rest = record { element = element; lane = refl; lanes = refl; settings = record { moment = refl; name = refl; end = refl } };
+        rest = record { element = element; lane = refl; lanes = refl; settings = record { moment = refl; name = refl; end = refl; opened = refl } };
         run = λ tells. run_idle told before (settled_by by before message.0 made) of fresh tells;
       })

@@ -1,11 +1,11 @@
 -- What is reserved under a counter, and where in the history.
-use Rattle.std.proofs.Common.{◌≡◌, ℕ, Bool, true, false, ◌&&◌, ◌==◌, not, Option, Some, None, if◌then◌else◌, List, [], ◌∷◌, length, reverse, refl, sym, ◌∙◌, ap, subst}
+use Rattle.std.proofs.Common.{◌≡◌, ℕ, Bool, true, false, not, Option, Some, None, if◌then◌else◌, List, [], ◌∷◌, length, reverse, refl, sym, ◌∙◌, ap}
 use Rattle.std.proofs.lemmas.List.Folds.{find_at}
 use Rattle.std.specs.List.{list_any, position, position_or_len, slice_get}
 use Rattle.std.specs.Option.{option_or, option_map, option_and_then}
 use Rattle.std.specs.Prelude.{find}
 use Rattle.ota_core.specs.Keyset.{Keyset}
-use Rattle.ota_core.specs.Entry.{Reservation, is_reserve_of, is_settlement_of, reserved_by}
+use Rattle.ota_core.specs.Entry.{Reservation, is_reserve_of, reserved_by}
 use Rattle.ota_core.specs.History.{first_some}
 use Rattle.ota_core.specs.HistoryLaws.{is_same_place-true}
 use Rattle.ota_core.specs.Questions.{opened_facts, state_of}

@@ -1,5 +1,5 @@
 -- What becomes of a batch of entries that a call adds to the lane's history.
-use Rattle.std.specs.Prelude.{◌≡◌, ◌⊎◌, ℕ, ◌+◌, ◌<◌, ◌≤◌, Bool, true, false, max, None, Some, Option, List, [], ◌∷◌, ◌++◌, reverse, Result, Ok, Err}
+use Rattle.std.specs.Prelude.{◌≡◌, ◌⊎◌, ℕ, ◌+◌, ◌<◌, ◌≤◌, Bool, true, false, max, All, None, Some, Option, List, [], ◌∷◌, ◌++◌, length, reverse, Result, Ok, Err}
 use Rattle.std.specs.List.{list_all}
 use Rattle.disk_model.specs.Counts.{Counts, HasRisen}
 use Rattle.disk_model.specs.Disk.{Meaning, DiskRun}
@@ -7,6 +7,7 @@ use Rattle.gate_log.specs.Opening.{LIMIT, need_of}
 use Rattle.ota_core.specs.Questions.{last_moment}
 use Rattle.ota_core.specs.declared.entries.Entry.{Entry}
 use Rattle.ota_core.specs.declared.entries.Entry.TheVariants as entry
+use Rattle.counter_journal.specs.EntryRanges.{IsEntry}
 use Rattle.counter_journal.specs.JournalReading.{JournalValue, parts_for, Holds}
 use Rattle.site_model.specs.Port.{PortState}
 use Rattle.site_model.specs.Cards.{port_now}
@@ -39,9 +40,9 @@ abbrev pub Fits : JournalValue → List Entry → Type 0
 Fits journal [] = Unit {0}
 Fits journal (entry ∷ entries) = journal.length + need_for (entry ∷ entries) ≤ LIMIT
 
--- it has none: the length of its log and the octets that the batch needs
+-- it has none for a batch that it takes: the length of its log and the octets that the batch needs
 abbrev pub IsFull : JournalValue → List Entry → ℕ → ℕ → Type 0
-IsFull journal entries length need = (length ≡ journal.length) × (need ≡ need_for entries) × (LIMIT < length + need)
+IsFull journal entries len need = (len ≡ journal.length) × (need ≡ need_for entries) × (LIMIT < len + need) × (1 ≤ length entries) × All IsEntry entries
 
 -- The answer of a call that adds a batch, by the first cause in this order: the lane is stale; the refusal that the history
 -- gives; want of memory; no room in the journal; a fault of the site.
@@ -62,20 +63,22 @@ UnlessWanting result P = P
 pub record IsAdded {D : Type 0} (old new : LaneValue D) (batch : List Entry) : Type 0 where
   pub entries : new.journal.entries ≡ old.journal.entries ++ batch
   pub is_stale : new.is_stale ≡ false
+  pub lost : new.lost ≡ old.lost
   pub rest : IsSameHearing old new
 
--- the history is as it was, and the lane is stale from now on
-pub record IsStopped {D : Type 0} (old new : LaneValue D) : Type 0 where
+-- the history is as it was, the batch is lost, and the lane is stale from now on
+pub record IsStopped {D : Type 0} (old new : LaneValue D) (batch : List Entry) : Type 0 where
   pub entries : new.journal.entries ≡ old.journal.entries
   pub length : new.journal.length ≡ old.journal.length
   pub is_stale : new.is_stale ≡ true
+  pub lost : new.lost ≡ batch
   pub rest : IsSameHearing old new
 
 -- What a call leaves that adds a batch and does nothing else: at Ok the history is longer by it, and after a refusal the
 -- lane is as it was.
 abbrev pub IsAddition : {D : Type 0} → LaneValue D → LaneValue D → List Entry → Result (Unit {0}) LaneErr → Type 0
 IsAddition old new batch (Ok done) = IsAdded old new batch
-IsAddition old new batch (Err (lane_err.SiteFault fault)) = IsStopped old new
+IsAddition old new batch (Err (lane_err.SiteFault fault)) = IsStopped old new batch
 IsAddition old new batch (Err refusal) = IsSameLane old new
 
 -- the fault of a site whose disk answered this one

@@ -1,11 +1,13 @@
 -- What a call hands to the port.
-use Rattle.std.specs.Prelude.{◌≡◌, ◌⊎◌, ℕ, ◌≤◌, true, false, if◌then◌else◌, Option, Some, None, List, [], ◌∷◌, ◌++◌, length, map, take, reverse, Result, Ok, Err}
+use Rattle.std.specs.Prelude.{◌≡◌, ◌⊎◌, ℕ, ◌≤◌, true, false, if◌then◌else◌, Option, Some, None, List, [], ◌∷◌, ◌++◌, length, map, take, Result, Ok, Err}
 use Rattle.std.specs.List.{flat_map, range_with_len}
 use Rattle.disk_model.specs.Disk.{Meaning}
 use Rattle.ota_core.specs.Entry.{Reservation, is_reserve_of}
 use Rattle.ota_core.specs.History.{first_some}
 use Rattle.ota_core.specs.declared.entries.Entry.{Entry}
 use Rattle.site_model.specs.Port.{PortState}
+use Rattle.counter_journal.specs.JournalReading.{Holds}
+use Rattle.site_model.specs.Runs.{SiteRun}
 use Rattle.site_model.specs.Cards.{port_now}
 use Rattle.site_model.specs.declared.departures.Departure.{Departure}
 use Rattle.world_core.specs.Effect.{piece_of}
@@ -16,9 +18,9 @@ use Rattle.world_core.specs.declared.events.Event.{Event}
 use Rattle.world_core.specs.declared.events.Event.TheVariants.{Begin, Seal, Leave}
 use Rattle.world_core.specs.declared.lines.Line.{Line}
 use Rattle.world_core.specs.declared.segments.Sent.{Sent}
-use Rattle.lane_engine.specs.Adding.{IsAdded, lane_world}
+use Rattle.lane_engine.specs.Adding.{IsAdded, IsAddingRun, lane_world}
 use Rattle.lane_engine.specs.LaneValue.{LaneValue, IsSameLane, IsSameHearing}
-use Rattle.lane_engine.specs.Packets.{departures_of, departures_if}
+use Rattle.lane_engine.specs.Packets.{departures_if}
 use Rattle.lane_engine.specs.World.{world_of, cards_of, AreSent}
 use Rattle.lane_engine.specs.declared.answers.LaneErr.{LaneErr}
 use Rattle.lane_engine.specs.declared.answers.LaneErr.TheVariants as lane_err
@@ -54,13 +56,13 @@ AreHandedOver departures before now (Ok done) = now.sent ≡ before.sent ++ depa
 AreHandedOver departures before now (Err (lane_err.SiteFault fault)) = AreFirst departures before now
 AreHandedOver departures before now (Err refusal) = now.sent ≡ before.sent
 
--- What a call leaves that adds a batch and then sends: after a fault of the site the history is as it was, where the
--- batch wasn't added, or longer by the batch.
+-- What a call leaves that adds a batch and then sends: after a fault of the site the history is as it was and the batch is
+-- lost, or the history is longer by the batch and nothing is lost.
 abbrev pub IsSending : {D : Type 0} → LaneValue D → LaneValue D → List Entry → Result (Unit {0}) LaneErr → Type 0
 IsSending old new batch (Ok done) = IsAdded old new batch
 IsSending old new batch (Err (lane_err.SiteFault fault)) =
     (new.is_stale ≡ true) × IsSameHearing old new
-    × ((new.journal.entries ≡ old.journal.entries) ⊎ (new.journal.entries ≡ old.journal.entries ++ batch))
+    × (((new.journal.entries ≡ old.journal.entries) × (new.lost ≡ batch)) ⊎ ((new.journal.entries ≡ old.journal.entries ++ batch) × (new.lost ≡ old.lost)))
 IsSending old new batch (Err refusal) = IsSameLane old new
 
 -- The answer of a call that sends what is reserved, by the first cause in this order: the lane is stale; the refusal that the
@@ -73,8 +75,8 @@ ResendAnswer lane refusal (Err named) = (lane.is_stale ≡ false) × (refusal �
 
 -- the journal is as it was, and after a fault of the site the lane is stale
 abbrev pub IsResent : {D : Type 0} → LaneValue D → LaneValue D → Result (Unit {0}) LaneErr → Type 0
-IsResent old new (Ok done) = (new.journal ≡ old.journal) × (new.is_stale ≡ false) × IsSameHearing old new
-IsResent old new (Err (lane_err.SiteFault fault)) = (new.journal ≡ old.journal) × (new.is_stale ≡ true) × IsSameHearing old new
+IsResent old new (Ok done) = (new.journal ≡ old.journal) × (new.is_stale ≡ false) × IsSameHearing old new × (new.lost ≡ old.lost)
+IsResent old new (Err (lane_err.SiteFault fault)) = (new.journal ≡ old.journal) × (new.is_stale ≡ true) × IsSameHearing old new × (new.lost ≡ old.lost)
 IsResent old new (Err refusal) = new ≡ old
 
 -- the packet of an entry that reserves this counter
@@ -94,6 +96,11 @@ module _ {D B C : Type 0} (told : Meaning D B C) (port : B → PortState) (lines
   abbrev pub SendsOnlyAdded : LaneValue D → LaneValue D → Type 0
   SendsOnlyAdded old new = new.journal.entries ≡ old.journal.entries → (port_now told port lines new.site).sent ≡ (port_now told port lines old.site).sent
 
+  -- At each moment of a call that adds a batch and then sends, a stop leaves the history as it was, or with the whole batch.
+  abbrev pub LeavesWhole : LaneValue D → LaneValue D → List Entry → Type 0
+  LeavesWhole old new batch = SiteRun told old.site new.site (λ image beside choice. Holds old.journal.lane old.journal.lanes old.journal.entries image
+      ⊎ Holds old.journal.lane old.journal.lanes (old.journal.entries ++ batch) image)
+
   -- These events lead from the lane's world to the one with the history after and with these pieces sent, whatever the
   -- cards did meanwhile.
   pub record IsSendingRun (old new : LaneValue D) (events : List Event) (pieces : List Sent) : Type 0 where
@@ -109,7 +116,7 @@ module _ {D B C : Type 0} (told : Meaning D B C) (port : B → PortState) (lines
       let pieces = pieces_from new.journal.entries (length old.journal.entries) (length batch) in
       IsSendingRun old new (Begin batch ∷ Seal ∷ map leaving pieces) pieces
   SendingEvents old new batch (Err (lane_err.SiteFault fault)) =
-      (new.journal.entries ≡ old.journal.entries)
+      IsAddingRun told port lines old new batch (Err (lane_err.SiteFault fault))
       ⊎ ((count : ℕ) × (
       let pieces = take count (pieces_from new.journal.entries (length old.journal.entries) (length batch)) in
       IsSendingRun old new (Begin batch ∷ Seal ∷ map leaving pieces) pieces))

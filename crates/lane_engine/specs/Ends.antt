@@ -6,6 +6,7 @@ use Rattle.ota_core.specs.Keyset.{Keyset}
 use Rattle.ota_core.specs.declared.entries.Entry.{Entry}
 use Rattle.ota_core.specs.declared.jobs.Job.{Job}
 use Rattle.ota_core.specs.declared.keysets.KeysetFacts.{KeysetFacts}
+use Rattle.counter_journal.specs.EntryRanges.{IsEntry}
 use Rattle.site_model.specs.declared.site_faults.SiteFault.TheVariants as fault
 use Rattle.lane_engine.specs.Adding.{need_for}
 use Rattle.lane_engine.specs.LaneValue.{LaneValue}
@@ -14,7 +15,7 @@ use Rattle.lane_engine.specs.Reserving.{IsJobOf, reserves_of, opens_of}
 use Rattle.lane_engine.specs.declared.answers.LaneErr.{LaneErr}
 use Rattle.lane_engine.specs.declared.answers.LaneErr.TheVariants as lane_err
 
--- so many octets are needed by 1 to 16 reservations of jobs of the lane
+-- so many octets are needed by 1 to 16 reservations of jobs of the lane, which a journal takes
 pub record IsNeedOfReserves (lane lanes need : ℕ) : Type 0 where
   pub by : ℕ
   pub moment : ℕ
@@ -25,15 +26,17 @@ pub record IsNeedOfReserves (lane lanes need : ℕ) : Type 0 where
   pub few : length jobs ≤ 16
   pub short : length name ≤ 32
   pub of_lane : All (IsJobOf lane lanes) jobs
+  pub fit : All IsEntry (reserves_of by moment name past jobs)
   pub need_is : need ≡ need_for (reserves_of by moment name past jobs)
 
--- so many octets are needed by 1 to 16 Opens
+-- so many octets are needed by 1 to 16 Opens, which a journal takes
 pub record IsNeedOfOpens (need : ℕ) : Type 0 where
   pub by : ℕ
   pub moment : ℕ
   pub keysets : List (Keyset × KeysetFacts)
   pub some : 1 ≤ length keysets
   pub few : length keysets ≤ 16
+  pub fit : All IsEntry (opens_of by moment [] keysets)
   pub need_is : need ≡ need_for (opens_of by moment [] keysets)
 
 -- The answer of a call ends a lane: want of memory always; a fault of the site where its count rose since the opening; and

@@ -1,35 +1,24 @@
 -- What a lane keeps since its opening.
-use Rattle.std.specs.Prelude.{◌≡◌, ◌⊎◌, ℕ, ◌+◌, ◌<◌, ◌≤◌, Bool, true, false, Option, Some, None, List, [], ◌∷◌, ◌++◌, length, drop, reverse}
+use Rattle.std.specs.Prelude.{◌≡◌, ◌⊎◌, ℕ, ◌<◌, ◌≤◌, Bool, true, false, Some, List, [], ◌∷◌, ◌++◌, length, drop}
 use Rattle.disk_model.specs.Counts.{Counts, HasRisen}
 use Rattle.disk_model.specs.Disk.{Meaning, Tells, PastStands, image_now}
-use Rattle.gate_log.specs.Opening.{LIMIT}
 use Rattle.ota_core.specs.declared.cards.CardId.{CardId}
 use Rattle.ota_core.specs.declared.entries.Entry.{Entry}
-use Rattle.counter_journal.specs.JournalReading.{JournalValue, Holds}
+use Rattle.counter_journal.specs.JournalReading.{Holds}
 use Rattle.counter_journal.specs.Standing.{StandsFor}
 use Rattle.site_model.specs.Port.{PortState}
 use Rattle.site_model.specs.Cards.{port_at, port_now}
-use Rattle.site_model.specs.declared.site_faults.SiteFault.TheVariants as fault
-use Rattle.sms_segments.specs.Assembled.{OfCard, answer_to}
+use Rattle.sms_segments.specs.Assembled.{answer_to}
 use Rattle.sms_segments.specs.Kept.{Keeps, Pile}
 use Rattle.sms_segments.specs.declared.assembling.Push.TheVariants.{Whole}
 use Rattle.world_core.specs.Members.{In}
 use Rattle.world_core.specs.declared.lines.Line.{Line}
 use Rattle.lane_engine.specs.Adding.{is_settlement}
 use Rattle.lane_engine.specs.LaneValue.{LaneValue}
+use Rattle.lane_engine.specs.Opening.{Opening}
 use Rattle.lane_engine.specs.Receipts.{RESPONSE, Response, due_in, is_receipt, message_of, past_of, response_at, settlement_of}
 use Rattle.lane_engine.specs.Sound.{SoundAt, SoundSince}
 use Rattle.lane_engine.specs.Unforged.{UnforgedSince}
-use Rattle.lane_engine.specs.declared.answers.LaneErr.{LaneErr}
-use Rattle.lane_engine.specs.declared.answers.LaneErr.TheVariants as lane_err
-
--- how a lane was opened: its number among so many, the history then, and the clock and the counts of its site before
-pub record Opening : Type 0 where
-  pub lane : ℕ
-  pub lanes : ℕ
-  pub entries : List Entry
-  pub clock : ℕ
-  pub counts : Counts
 
 -- one of the two counts of faults has risen
 abbrev pub AreRisen : Counts → Counts → Type 0
@@ -112,15 +101,24 @@ module _ {D B C : Type 0} (told : Meaning D B C) (counts : D → Counts) (port :
       pub settled : (response : Response) (was : WasDue site response) → IsSettledUnlessLast site entries response was
       pub settlements : (entry : Entry) → In entry (added_since entries) → IsByReceipt site entries entry
 
-    -- what is kept where the site tells, of a lane with this history that keeps these pieces
-    pub record KeptTold (site : D) (entries : List Entry) (is_stale : Bool) (pieces : Pile) : Type 0 where
+    -- the history is that of the opening with the first of these entries behind it, and none of the others
+    abbrev pub IsWithFirst : (history added : List Entry) → Type 0
+    IsWithFirst history added = (more : List Entry) × (behind : List Entry) × (history ≡ opening.entries ++ more) × (more ++ behind ≡ added)
+
+    -- what is kept where the site tells, of a lane with this history that lost this batch and keeps these pieces
+    pub record KeptTold (site : D) (entries lost : List Entry) (is_stale : Bool) (pieces : Pile) : Type 0 where
       pub later : opening.clock ≤ told.clock site
       -- the pieces that are kept are those of the messages given
       pub heard : is_stale ≡ false
           → (messages : List (CardId × List ℕ)) × AreGiven site (told.clock site) messages × Keeps RESPONSE (past_of messages) pieces
-      -- what a stop leaves of a stale lane holds its history, or that and one batch
+      -- what was lost is one batch, of at most 16 entries
+      pub few : length lost ≤ 16
+      -- what a stop leaves of a stale lane holds its history, or that and the batch that was lost
       pub stale : is_stale ≡ true → (image : List ℕ) → image_now told site image
-          → (batch : List Entry) × (length batch ≤ 16) × Holds opening.lane opening.lanes (entries ++ batch) image
+          → Holds opening.lane opening.lanes entries image ⊎ Holds opening.lane opening.lanes (entries ++ lost) image
+      -- whatever a stop left since the opening's end holds the opening's history and the first of what was added and lost
+      pub left : (moment : ℕ) (image : List ℕ) (history : List Entry) → opening.ready ≤ moment → moment ≤ told.clock site → told.image_at site moment image
+          → StandsFor opening.lane opening.lanes history image → IsWithFirst history (added_since entries ++ lost)
       pub fair : IsFair site → KeptFair site entries
       -- before a fault all receipts that were due are settled
       pub all : is_stale ≡ false → IsFair site → (response : Response) → WasDue site response → IsSettled entries response
@@ -133,4 +131,4 @@ module _ {D B C : Type 0} (told : Meaning D B C) (counts : D → Counts) (port :
       pub entries : opening.entries ++ added_since lane.journal.entries ≡ lane.journal.entries
       pub faults : opening.counts.faults ≤ (counts lane.site).faults
       pub wants : opening.counts.wants ≤ (counts lane.site).wants
-      pub where_told : Tells told lane.site → KeptTold lane.site lane.journal.entries lane.is_stale lane.heard.pieces
+      pub where_told : Tells told lane.site → KeptTold lane.site lane.journal.entries lane.lost lane.is_stale lane.heard.pieces

@@ -3,6 +3,7 @@ pub mod World
 pub mod Sound
 pub mod Receipts
 pub mod Unforged
+pub mod Opening
 pub mod LaneValue
 pub mod Adding
 pub mod Reserving
@@ -11,6 +12,9 @@ pub mod Sending
 pub mod Polling
 pub mod Ends
 pub mod Kept
+pub mod Unsettled
+pub mod Keeping
+pub mod KeepingLaws
 pub mod Opened
 pub mod Responses
 pub mod Settling

@@ -1,6 +1,6 @@
 -- The packet of a reservation in octets, and the pieces in which it leaves. ETSI TS 102 225, 5.1; 3GPP TS 23.040,
 -- 9.2.3.24.1 and 9.2.3.24.8.
-use Rattle.std.specs.Prelude.{ℕ, ◌%◌, if◌then◌else◌, List, ◌++◌, [], ◌∷◌, map, Option, Some, None}
+use Rattle.std.specs.Prelude.{ℕ, ◌%◌, if◌then◌else◌, List, [], map, Option, Some, None}
 use Rattle.std.specs.List.{flat_map, range_with_len}
 use Rattle.ota_core.specs.declared.entries.Entry.{Entry}
 use Rattle.ota_core.specs.declared.keysets.KeysetFacts.{KeysetFacts}

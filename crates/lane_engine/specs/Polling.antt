@@ -3,7 +3,7 @@ use Rattle.std.specs.Prelude.{◌≡◌, ◌⊎◌, ℕ, ◌+◌, ◌<◌, ◌�
 use Rattle.disk_model.specs.Counts.{Counts, HasRisen}
 use Rattle.disk_model.specs.Disk.{Meaning}
 use Rattle.gate_log.specs.Opening.{LIMIT}
-use Rattle.ota_core.specs.Entry.{is_settlement_of}
+use Rattle.ota_core.specs.Entry.{by_of, is_settlement_of}
 use Rattle.ota_core.specs.declared.cards.CardId.{CardId}
 use Rattle.ota_core.specs.declared.entries.Entry.{Entry}
 use Rattle.site_model.specs.Causes.{empty_polls}
@@ -18,7 +18,7 @@ use Rattle.world_core.specs.declared.events.Event.{Event}
 use Rattle.world_core.specs.declared.events.Event.TheVariants.{Begin, Seal, Give}
 use Rattle.world_core.specs.declared.lines.Line.{Line}
 use Rattle.world_core.specs.declared.segments.Sent.{Sent}
-use Rattle.lane_engine.specs.Adding.{moment_for}
+use Rattle.lane_engine.specs.Adding.{moment_for, is_settlement}
 use Rattle.lane_engine.specs.LaneValue.{LaneValue, IsSameSettings}
 use Rattle.lane_engine.specs.Receipts.{RESPONSE, Response, answer_to_message, message_of, due_in, response_in, settlement_of}
 use Rattle.lane_engine.specs.Unforged.{made_as}
@@ -48,11 +48,15 @@ abbrev pub CountsNothing : Counts → Counts → Result Poll LaneErr → Type 0
 CountsNothing before now (Ok poll.Nothing) = HasRisen (empty_polls before) (empty_polls now)
 CountsNothing before now result = empty_polls now ≡ empty_polls before
 
--- the history is longer by a settlement of the counter that the answer names, and by nothing with any other answer
-abbrev pub GrewBy : List Entry → List Entry → Poll → Type 0
-GrewBy old new (poll.Settled keyset counter) =
-    (entry : Entry) × (new ≡ old ++ entry ∷ []) × (is_settlement_of (record { keyset = keyset; counter = counter }) entry ≡ true)
-GrewBy old new poll = new ≡ old
+-- the history is longer by a settlement of the counter that the answer names, under that number, and by nothing with any other answer
+abbrev pub GrewBy : List Entry → List Entry → ℕ → Poll → Type 0
+GrewBy old new by (poll.Settled keyset counter) =
+    (entry : Entry) × (new ≡ old ++ entry ∷ []) × (is_settlement_of (record { keyset = keyset; counter = counter }) entry ≡ true) × (by_of entry ≡ by)
+GrewBy old new by poll = new ≡ old
+
+-- nothing is lost, or a settlement under that number
+abbrev pub LostBy : List Entry → ℕ → Type 0
+LostBy lost by = (lost ≡ []) ⊎ ((entry : Entry) × (lost ≡ entry ∷ []) × (is_settlement entry ≡ true) × (by_of entry ≡ by))
 
 -- only what is heard may be another, and the history
 pub record IsSameBut {D : Type 0} (old new : LaneValue D) : Type 0 where
@@ -71,15 +75,16 @@ pub record IsUnpolled {D : Type 0} (old new : LaneValue D) : Type 0 where
   pub entries : new.journal.entries ≡ old.journal.entries
   pub length : new.journal.length ≡ old.journal.length
   pub is_stale : new.is_stale ≡ old.is_stale
+  pub lost : new.lost ≡ old.lost
   pub kept : KeepsSame old new
   pub rest : IsSameBut old new
 
--- what a poll leaves: at Ok a history that grew as its answer says; after a fault the history as it was, and a stale lane;
--- after each other refusal the lane as it was
-abbrev pub IsPolled : {D : Type 0} → LaneValue D → LaneValue D → Result Poll LaneErr → Type 0
-IsPolled old new (Ok poll) = GrewBy old.journal.entries new.journal.entries poll × (new.is_stale ≡ false) × IsSameBut old new
-IsPolled old new (Err (lane_err.SiteFault fault)) = (new.journal.entries ≡ old.journal.entries) × (new.is_stale ≡ true) × IsSameBut old new
-IsPolled old new (Err refusal) = IsUnpolled old new
+-- what a poll leaves: at Ok a history that grew as its answer says; after a fault the history as it was, a stale lane, and a
+-- settlement lost at most; after each other refusal the lane as it was
+abbrev pub IsPolled : {D : Type 0} → LaneValue D → LaneValue D → ℕ → Result Poll LaneErr → Type 0
+IsPolled old new by (Ok poll) = GrewBy old.journal.entries new.journal.entries by poll × (new.is_stale ≡ false) × IsSameBut old new × (new.lost ≡ old.lost)
+IsPolled old new by (Err (lane_err.SiteFault fault)) = (new.journal.entries ≡ old.journal.entries) × (new.is_stale ≡ true) × IsSameBut old new × LostBy new.lost by
+IsPolled old new by (Err refusal) = IsUnpolled old new
 
 -- the entry that settles what is due
 abbrev pub settlements : (by moment : ℕ) → Option Response → List Entry
@@ -104,6 +109,14 @@ abbrev pub PortPolled : {D : Type 0} → LaneValue D → LaneValue D → ℕ →
 PortPolled old new by before now (Ok poll) = (now.sent ≡ before.sent) × (now.polls ≡ before.polls + 1) × IsAsked old new by before now poll
 PortPolled old new by before now (Err (lane_err.SiteFault fault)) = IsPolling before now
 PortPolled old new by before now (Err refusal) = now ≡ before
+
+-- after a fault nothing is lost, or the settlement of what the message that was given made due
+abbrev pub LosesDue : {D : Type 0} → LaneValue D → LaneValue D → ℕ → PortState → PortState → Result Poll LaneErr → Type 0
+LosesDue old new by before now (Err (lane_err.SiteFault fault)) =
+    (new.lost ≡ [])
+    ⊎ ((message : CardId × List ℕ) × (now.given ≡ before.given ++ message ∷ [])
+    × ((past : List OfCard) → Keeps RESPONSE past old.heard.pieces → new.lost ≡ settlements by (moment_for old) (due_in old.journal.entries past (message_of message))))
+LosesDue old new by before now result = Unit {0}
 
 -- the first position at which this answer stands among those that were made
 abbrev pub FirstMade : Made → List Made → ℕ → Type 0
@@ -135,8 +148,20 @@ module _ {D B C : Type 0} (told : Meaning D B C) (port : B → PortState) (lines
         (map giving positions ++ settling_events (settlements by (moment_for old) (due_in old.journal.entries past (message_of message))))
         (world_of new.journal.entries (port_now told port lines new.site) chosen sent (before ++ positions))
 
+  -- Where a fault came while it was being added, what the message made due begins and isn't sealed.
+  pub record IsStoppedRun (old new : LaneValue D) (by : ℕ) (past : List OfCard) (message : CardId × List ℕ) : Type 0 where
+    pub positions : List ℕ
+    pub given : AreGivenBy message.0 (response_in old.journal.entries past (message_of message)) (port_now told port lines new.site).made positions
+    pub runs : (chosen : ℕ → List Line) (sent : List Sent) (before : List ℕ)
+        → Runs (world_of old.journal.entries (port_now told port lines new.site) chosen sent before) (map giving positions ++ Begin new.lost ∷ [])
+        (record (world_of old.journal.entries (port_now told port lines new.site) chosen sent (before ++ positions)) { batch = Some new.lost })
+
   abbrev pub PollingEvents : LaneValue D → LaneValue D → ℕ → Result Poll LaneErr → Type 0
   PollingEvents old new by (Ok poll.Nothing) = new.journal.entries ≡ old.journal.entries
   PollingEvents old new by (Ok poll) = (past : List OfCard) → Keeps RESPONSE past old.heard.pieces → (message : CardId × List ℕ)
       → (port_now told port lines new.site).given ≡ (port_now told port lines old.site).given ++ message ∷ [] → IsPollingRun old new by past message
+  PollingEvents old new by (Err (lane_err.SiteFault fault)) = (new.journal.entries ≡ old.journal.entries)
+      × ((new.lost ≡ [])
+      ⊎ ((past : List OfCard) → Keeps RESPONSE past old.heard.pieces → (message : CardId × List ℕ)
+      → (port_now told port lines new.site).given ≡ (port_now told port lines old.site).given ++ message ∷ [] → IsStoppedRun old new by past message))
   PollingEvents old new by (Err refusal) = new.journal.entries ≡ old.journal.entries

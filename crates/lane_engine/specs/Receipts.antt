@@ -1,5 +1,5 @@
 -- What a message from a card says: a receipt, a notice, or nothing of ours. ETSI TS 102 225, 5.2; 3GPP TS 31.115, 4.4.
-use Rattle.std.specs.Prelude.{ℕ, nat_le, Bool, true, false, ◌==◌, ◌&&◌, if◌then◌else◌, not, Option, Some, None, List, [], ◌∷◌, length, map, reverse}
+use Rattle.std.specs.Prelude.{ℕ, nat_le, Bool, true, false, ◌==◌, ◌&&◌, if◌then◌else◌, not, Option, Some, None, List, length, map, reverse}
 use Rattle.std.specs.List.{list_any, range_with_len}
 use Rattle.std.specs.Option.{option_map, option_and_then}
 use Rattle.std.specs.Result.{result_ok}

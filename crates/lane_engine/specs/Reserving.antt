@@ -1,5 +1,5 @@
 -- Which entries a call adds, and which refusal the history gives. A past is the entries so far, newest first.
-use Rattle.std.specs.Prelude.{◌≡◌, ◌≢◌, ℕ, ◌+◌, ◌%◌, ◌≤◌, nat_le, Bool, true, false, if◌then◌else◌, not, Option, Some, None, List, [], ◌∷◌, ◌++◌, length, filter, map, reverse}
+use Rattle.std.specs.Prelude.{◌≡◌, ℕ, ◌+◌, ◌%◌, ◌≤◌, nat_le, Bool, true, false, if◌then◌else◌, not, Option, Some, None, List, [], ◌∷◌, length, filter, map}
 use Rattle.std.specs.List.{list_any, count_by}
 use Rattle.std.specs.Option.{option_or}
 use Rattle.ota_core.specs.Job.{is_same_job}

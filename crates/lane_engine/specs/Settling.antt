@@ -1,12 +1,11 @@
 -- What a lane does with a message that the port gave.
-use Rattle.std.specs.Prelude.{◌≡◌, ◌⊎◌, ℕ, ◌+◌, ◌<◌, ◌≤◌, true, false, Option, Some, None, List, [], ◌∷◌, ◌++◌, length, All, Result, Ok, Err, IfOk}
+use Rattle.std.specs.Prelude.{◌≡◌, ◌⊎◌, ℕ, ◌+◌, ◌<◌, ◌≤◌, true, false, List, ◌∷◌, ◌++◌, length, All, Result, Ok, Err, IfOk}
 use Rattle.disk_model.specs.Disk.{Meaning, Tells, DiskRun}
 use Rattle.gate_log.specs.Opening.{LIMIT}
 use Rattle.ota_core.specs.declared.cards.CardId.{CardId}
 use Rattle.ota_core.specs.declared.entries.Entry.{Entry}
 use Rattle.counter_journal.specs.EntryRanges.{IsEntry}
 use Rattle.counter_journal.specs.JournalReading.{Holds}
-use Rattle.site_model.specs.declared.site_faults.SiteFault.{SiteFault}
 use Rattle.sms_segments.specs.Assembled.{OfCard, answer_to}
 use Rattle.sms_segments.specs.Kept.{Keeps}
 use Rattle.sms_segments.specs.declared.assembling.Push.{Push}
@@ -27,6 +26,7 @@ RoomAnswer length (Err error) = (error ≡ lane_err.Full length LONGEST_SETTLEME
 pub record IsAskedOnce {D : Type 0} (old new : LaneValue D) : Type 0 where
   pub journal : new.journal ≡ old.journal
   pub heard : new.heard ≡ old.heard
+  pub lost : new.lost ≡ old.lost
   pub settings : IsSameSettings old new
 
 abbrev pub AskingAnswer : {D T : Type 0} → LaneValue D → Result T LaneErr → Type 0
@@ -40,10 +40,10 @@ settled_by by lane card push =
     settlements by (moment_for lane) (due_by (answer_to_push lane.journal.entries card push) (response_by lane.journal.entries card push))
 
 -- What is left where this is settled: at Ok a history that is longer by it; after a fault of the site, which comes only
--- where there is something to settle, the history as it was.
+-- where there is something to settle, the history as it was, and this is lost.
 abbrev pub IsSettled : {D T : Type 0} → LaneValue D → LaneValue D → List Entry → Result T LaneErr → Type 0
-IsSettled old new batch (Ok done) = (new.journal.entries ≡ old.journal.entries ++ batch) × (new.is_stale ≡ false)
-IsSettled old new batch (Err (lane_err.SiteFault fault)) = (new.journal.entries ≡ old.journal.entries) × (new.is_stale ≡ true) × (1 ≤ length batch)
+IsSettled old new batch (Ok done) = (new.journal.entries ≡ old.journal.entries ++ batch) × (new.is_stale ≡ false) × (new.lost ≡ old.lost)
+IsSettled old new batch (Err (lane_err.SiteFault fault)) = (new.journal.entries ≡ old.journal.entries) × (new.is_stale ≡ true) × (1 ≤ length batch) × (new.lost ≡ batch)
 IsSettled old new batch (Err refusal) = ⊥
 
 -- a packet of a card was taken, or what else a message made

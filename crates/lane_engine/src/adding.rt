@@ -8,7 +8,8 @@ ghost use Rattle.counter_journal.specs.EntryRanges.{IsEntry, IsSized, IsOfLane};
 ghost use Rattle.counter_journal.specs.JournalReading.{IsRoomy};
 ghost use Rattle.site_model.specs.Causes.{empty_polls};
 ghost use Rattle.lane_engine.specs.Adding.{AddingAnswer, IsAddition, IsAddingRun, LaneCause, UnlessWanting, is_settlement, site_fault};
-ghost use Rattle.lane_engine.specs.Kept.{Opening, KeptSince, IsLater};
+ghost use Rattle.lane_engine.specs.Kept.{KeptSince, IsLater};
+ghost use Rattle.lane_engine.specs.Opening.{Opening};
 
 use crate::answers::LaneErr;
 use crate::lanes::Lane;
@@ -16,6 +17,7 @@ use disk_model::DiskFault;
 use gate_log::LogErr;
 use ota_core::Entry;
 use site_model::{SiteCalls, SiteFault};
+use std::snapshot::Snapshot;
 
 impl<T: SiteCalls> Lane<T> {
     /// Adds 1 to 16 entries in one batch, all or none, by a lane that isn't stale. It wants memory only where there is no
@@ -37,10 +39,12 @@ impl<T: SiteCalls> Lane<T> {
         ensures later { IsLater T.told T.counts T.port T.lines self.old self.new }
         ensures kept { list_any is_settlement entries.items ≡ false → (opening : Opening) → KeptSince T.told T.counts T.port T.lines opening self.old → KeptSince T.told T.counts T.port T.lines opening self.new }
     {
+        let batch = Snapshot::of(&entries);
         match self.journal.add(&mut self.site, entries) {
             Ok(()) => Ok(()),
             Err(LogErr::DiskFault(fault)) => {
                 self.is_stale = true;
+                self.lost = batch;
                 Err(LaneErr::SiteFault(site_fault(fault)))
             }
             Err(LogErr::Full { length, need }) => Err(LaneErr::Full { length, need }),

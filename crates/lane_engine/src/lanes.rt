@@ -1,25 +1,30 @@
 //! A lane, and what it tells of itself.
 
-ghost use Rattle.std.specs.Prelude.{◌≡◌, ◌≤◌, false, true, Option, Some, None, All, length};
+ghost use Rattle.std.specs.Prelude.{◌≡◌, ◌≤◌, false, true, Option, Some, None, [], All, length};
 ghost use Rattle.std.specs.Option.{option_or};
+ghost use Rattle.disk_model.specs.Disk.{Tells};
 ghost use Rattle.ota_core.specs.History.{IsLegal};
 ghost use Rattle.counter_journal.specs.EntryRanges.{IsEntryOf};
-ghost use Rattle.lane_engine.specs.Kept.{Opening, KeptSince, IsLater};
+ghost use Rattle.counter_journal.specs.JournalReading.{IsReady};
+ghost use Rattle.lane_engine.specs.Kept.{KeptSince, IsLater};
+ghost use Rattle.lane_engine.specs.Opening.{Opening};
 
 use crate::answers::LaneErr;
+use crate::openings::Opened;
 use crate::workspaces::Workspace;
 use arrayvec::ArrayVec;
 use counter_journal::Journal;
-use ota_core::History;
+use ota_core::{Entry, History};
 use site_model::SiteCalls;
 use sms_segments::Assembler;
 use std::alloc::Global;
 use std::marker::Model;
+use std::snapshot::Snapshot;
 
 /// A site with its journal open. A lane is for one sender at a time.
 ///
 /// Contracts see its site and journal, whether it is stale, the pieces of messages that it keeps, the moment and the name
-/// of the entries to come, and its end, where one is set.
+/// of the entries to come, its end, where one is set, how it was opened, and the batch that a fault left unknown.
 #[derive(Drop)]
 pub struct Lane<T: SiteCalls> {
     pub(crate) alloc: Global,
@@ -32,6 +37,10 @@ pub struct Lane<T: SiteCalls> {
     pub(crate) moment: u64,
     pub(crate) name: ArrayVec<u8, 32>,
     pub(crate) end: Option<LaneErr>,
+    /// For contracts alone, as is the next.
+    pub(crate) opened: Opened<T>,
+    /// The batch whose addition answered a fault: a stop may leave all of it or nothing.
+    pub(crate) lost: Snapshot<Vec<Entry>>,
 }
 
 impl<T: SiteCalls> Model for Lane<T> {
@@ -43,27 +52,30 @@ impl<T: SiteCalls> Model for Lane<T> {
 
     ghost coded = { Prim.hlevel (codes, kept.the_row.coded) };
 
-    ghost view = { λ l. record { site = l.site; journal = l.journal; is_stale = l.is_stale; heard = l.assembler; moment = l.moment; name = l.name.items; end = l.end } };
+    ghost view = { λ l. record { site = l.site; journal = l.journal; is_stale = l.is_stale; heard = l.assembler; moment = l.moment; name = l.name.items; end = l.end; opened = l.opened; lost = l.lost.value.items } };
 
-    ghost invariant = { λ l. IsLane T.told (record { site = l.site; journal = l.journal; is_stale = l.is_stale; heard = l.assembler; moment = l.moment; name = l.name.items; end = l.end }) };
+    ghost invariant = { λ l. IsLane T.told (record { site = l.site; journal = l.journal; is_stale = l.is_stale; heard = l.assembler; moment = l.moment; name = l.name.items; end = l.end; opened = l.opened; lost = l.lost.value.items }) };
 }
 
 impl<T: SiteCalls> Lane<T> {
-    /// The history that the lane holds. Each reserved script in it has 1 to 4,096 octets.
+    /// The history that the lane holds. Each reserved script in it has 1 to 4,096 octets. Unless the lane is stale, its journal
+    /// opens to it.
     pub fn history(&self) -> &History
         ensures entries { result.now.entries ≡ self.now.journal.entries }
         ensures of_lane { All (IsEntryOf self.now.journal.lane self.now.journal.lanes) self.now.journal.entries }
         ensures legal { IsLegal self.now.journal.entries }
+        ensures ready { self.now.is_stale ≡ false → Tells T.told self.now.site → IsReady T.told self.now.site self.now.journal }
     {
         self.journal.history()
     }
 
-    /// Gives the site and the history that the lane holds.
+    /// Gives the site and the history that the lane holds, and that its journal opens to unless it is stale.
     pub fn into_parts(self) -> (T, History)
         ensures site { result.0 ≡ self.site }
         ensures entries { result.1.entries ≡ self.journal.entries }
         ensures of_lane { All (IsEntryOf self.journal.lane self.journal.lanes) self.journal.entries }
         ensures legal { IsLegal self.journal.entries }
+        ensures ready { self.is_stale ≡ false → Tells T.told self.site → IsReady T.told self.site self.journal }
     {
         (self.site, self.journal.into_history())
     }
@@ -94,9 +106,12 @@ impl<T: SiteCalls> Lane<T> {
         }
     }
 
-    /// The end that was set, or None. A lane that was opened has none.
+    /// The end that was set, or None. A lane that was opened has none. Its history is legal, and nothing of it is lost before
+    /// a fault, as always.
     pub fn end(&self) -> Option<LaneErr>
-        ensures { result ≡ self.now.end }
+        ensures end { result ≡ self.now.end }
+        ensures legal { IsLegal self.now.journal.entries }
+        ensures whole { self.now.is_stale ≡ false → self.now.lost ≡ [] }
     {
         self.end
     }

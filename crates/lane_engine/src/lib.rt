@@ -4,6 +4,7 @@
 
 mod adding;
 mod answers;
+mod keeping;
 mod keysets;
 mod lanes;
 mod openings;
@@ -11,7 +12,9 @@ mod polling;
 mod reserving;
 mod responses;
 mod sending;
+mod unsettled;
 mod workspaces;
 
 pub use answers::{LaneErr, Poll};
 pub use lanes::Lane;
+pub use openings::Opened;

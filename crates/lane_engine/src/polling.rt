@@ -13,8 +13,9 @@ ghost use Rattle.site_model.specs.Runs.{PortRun};
 ghost use Rattle.sms_segments.specs.declared.assembling.Push.TheVariants.{Whole as WholePacket};
 ghost use Rattle.lane_engine.specs.Adding.{LaneCause, need_for};
 ghost use Rattle.lane_engine.specs.Departing.{HaveCardsGoneOn};
-ghost use Rattle.lane_engine.specs.Kept.{Opening, KeptSince, IsFair, IsLater};
-ghost use Rattle.lane_engine.specs.Polling.{CountsNothing, IsPolled, IsUnpolled, PollingAnswer, PollingEvents, PortPolled, LONGEST_SETTLEMENT};
+ghost use Rattle.lane_engine.specs.Kept.{KeptSince, IsFair, IsLater};
+ghost use Rattle.lane_engine.specs.Opening.{Opening};
+ghost use Rattle.lane_engine.specs.Polling.{CountsNothing, IsPolled, IsUnpolled, LosesDue, PollingAnswer, PollingEvents, PortPolled, LONGEST_SETTLEMENT};
 ghost use Rattle.lane_engine.specs.Settling.{AskingAnswer, IsAskedOnce, IsHeard, IsSettled, IsTaken, RoomAnswer, SettlingRun, settled_by};
 ghost use Rattle.lane_engine.specs.LaneValue.{IsSameHearing};
 
@@ -46,8 +47,9 @@ impl<T: SiteCalls> Lane<T> {
     /// is lost for want of either.
     pub fn poll_settle(&mut self, by: u32) -> Result<Poll, LaneErr>
         ensures answer { PollingAnswer self.old result }
-        ensures polled { IsPolled self.old self.new result }
+        ensures polled { IsPolled self.old self.new by result }
         ensures told { Tells T.told self.old.site → PortPolled self.old self.new by (port_now T.told T.port T.lines self.old.site) (port_now T.told T.port T.lines self.new.site) result }
+        ensures lost { Tells T.told self.old.site → LosesDue self.old self.new by (port_now T.told T.port T.lines self.old.site) (port_now T.told T.port T.lines self.new.site) result }
         ensures nothing { CountsNothing (T.counts self.old.site) (T.counts self.new.site) result }
         ensures events { (opening : Opening) → Tells T.told self.old.site → KeptSince T.told T.counts T.port T.lines opening self.old → IsFair T.told T.counts T.port T.lines opening self.new.site → PollingEvents T.told T.port T.lines self.old self.new by result }
         ensures went_on { (opening : Opening) → Tells T.told self.old.site → KeptSince T.told T.counts T.port T.lines opening self.old → IsFair T.told T.counts T.port T.lines opening self.new.site → HaveCardsGoneOn T.told T.port T.lines self.old self.new }

@@ -12,7 +12,8 @@ ghost use Rattle.ota_core.specs.declared.entries.Entry.{Entry};
 ghost use Rattle.ota_core.specs.declared.entries.Entry.TheVariants.{Reserve};
 ghost use Rattle.keyset_book.specs.Book.{StandsFor};
 ghost use Rattle.lane_engine.specs.Adding.{moment_for, AddingAnswer, IsAddition, IsAddingRun, IsNoFault, LaneCause};
-ghost use Rattle.lane_engine.specs.Kept.{Opening, KeptSince, IsLater};
+ghost use Rattle.lane_engine.specs.Kept.{KeptSince, IsLater};
+ghost use Rattle.lane_engine.specs.Opening.{Opening};
 ghost use Rattle.lane_engine.specs.Reserving.{IsJobOf, JobsDiffer, is_refusal, jobs_refusal, next_behind, refusal_behind, reserves_of, state_refusal, taken_refusal};
 
 use crate::answers::LaneErr;

@@ -15,8 +15,9 @@ ghost use Rattle.site_model.specs.Pieces.{pieces_under};
 ghost use Rattle.world_core.specs.Packet.{packet_at, pieces_of, pieces_of_length};
 ghost use Rattle.world_core.specs.declared.events.Event.TheVariants.{Begin, Seal};
 ghost use Rattle.lane_engine.specs.Adding.{moment_for, AddingAnswer, LaneCause};
-ghost use Rattle.lane_engine.specs.Departing.{AreHandedOver, HaveCardsGoneOn, IsResent, IsSending, IsSendingRun, IsUnasked, ResendAnswer, SendsOnlyAdded, SendingEvents, ResendingEvents, departures_under, pieces_at, pieces_from};
-ghost use Rattle.lane_engine.specs.Kept.{Opening, KeptSince, IsFair, IsLater};
+ghost use Rattle.lane_engine.specs.Departing.{AreHandedOver, HaveCardsGoneOn, IsResent, IsSending, IsSendingRun, IsUnasked, LeavesWhole, ResendAnswer, SendsOnlyAdded, SendingEvents, ResendingEvents, departures_under, pieces_at, pieces_from};
+ghost use Rattle.lane_engine.specs.Kept.{KeptSince, IsFair, IsLater};
+ghost use Rattle.lane_engine.specs.Opening.{Opening};
 ghost use Rattle.lane_engine.specs.Packets.{departures_for, departures_if, departures_of, octets_of, reference_of, spi_of};
 ghost use Rattle.lane_engine.specs.Reserving.{IsJobOf, JobsDiffer, jobs_refusal, reserves_of, resend_refusal};
 ghost use Rattle.lane_engine.specs.Sending.{AreAllHanded, HandsOver, HandsOverBuilt, IsCarried, IsOkOrFault, handed, packet_with};
@@ -49,6 +50,7 @@ impl<T: SiteCalls> Lane<T> {
         ensures sent { Tells T.told self.old.site → AreHandedOver (departures_for (self.old.journal.entries ++ reserves_of by (moment_for self.old) self.old.name (reverse self.old.journal.entries) jobs.now) (reserves_of by (moment_for self.old) self.old.name (reverse self.old.journal.entries) jobs.now)) (port_now T.told T.port T.lines self.old.site) (port_now T.told T.port T.lines self.new.site) result }
         ensures only_added { Tells T.told self.old.site → SendsOnlyAdded T.told T.port T.lines self.old self.new }
         ensures unasked { Tells T.told self.old.site → IsUnasked (port_now T.told T.port T.lines self.old.site) (port_now T.told T.port T.lines self.new.site) }
+        ensures moments { Tells T.told self.old.site → self.old.is_stale ≡ false → LeavesWhole T.told T.port T.lines self.old self.new (reserves_of by (moment_for self.old) self.old.name (reverse self.old.journal.entries) jobs.now) }
         ensures events { Tells T.told self.old.site → SendingEvents T.told T.port T.lines self.old self.new (reserves_of by (moment_for self.old) self.old.name (reverse self.old.journal.entries) jobs.now) result }
         ensures went_on { (opening : Opening) → Tells T.told self.old.site → KeptSince T.told T.counts T.port T.lines opening self.old → IsFair T.told T.counts T.port T.lines opening self.new.site → HaveCardsGoneOn T.told T.port T.lines self.old self.new }
         ensures cause { LaneCause (T.counts self.old.site) (T.counts self.new.site) result }
@@ -289,7 +291,7 @@ fn reserved_at(entries: &[Entry], position: usize) -> Option<Reserved<'_>>
 }
 
 /// Whether a counter can be sent again: its keyset is open, and it is reserved and not settled.
-fn may_resend(book: &Book, place: Reservation) -> Result<(), LaneErr>
+pub(crate) fn may_resend(book: &Book, place: Reservation) -> Result<(), LaneErr>
     ensures { (history : List HistoryEntry) → StandsFor book.now history → result_err result ≡ resend_refusal (reverse history) place }
 {
     in_use(book, place.keyset)?;

@@ -1,4 +1,4 @@
-use Rattle.std.proofs.Common.{◌≡◌, ◌∙◌, reverse, sym}
+use Rattle.std.proofs.Common.{◌∙◌, reverse, sym}
 use Rattle.std.proofs.lemmas.Result.{err_from_is_err_and}
 use Rattle.lane_engine.proofs.ReservingLemmas.{refusal_found, refusal_step}
 use Rattle.lane_engine.proofs.reserving.may_reserve_all.Goals as goal

@@ -1,9 +1,7 @@
-use Rattle.std.proofs.Common.{◌≡◌, sym, ◌∙◌, subst, ap, reverse, refl}
+use Rattle.std.proofs.Common.{sym, ◌∙◌, ap, reverse}
 use Rattle.ota_core.specs.Entry.{Reservation}
-use Rattle.ota_core.specs.Keyset.{Keyset}
 use Rattle.ota_core.specs.Questions.{state_of}
-use Rattle.ota_core.specs.declared.questions.KeysetState.TheVariants as state
-use Rattle.lane_engine.specs.Receipts.{answer_to_place, place_of}
+use Rattle.lane_engine.specs.Receipts.{answer_to_place}
 use Rattle.lane_engine.proofs.ResponseLemmas.{receipt_closed, receipt_unclosed, unclosed}
 use Rattle.lane_engine.proofs.responses.answer_to_receipt.Goals as goal
 

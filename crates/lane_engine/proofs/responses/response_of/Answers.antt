@@ -1,4 +1,4 @@
-use Rattle.std.proofs.Common.{◌≡◌, ℕ, None, sym, ◌∙◌, ap, arith, refl}
+use Rattle.std.proofs.Common.{sym, ◌∙◌, arith}
 use Rattle.lane_engine.specs.Receipts.{response_at}
 use Rattle.lane_engine.specs.Responses.{response_in_octets}
 use Rattle.lane_engine.proofs.ResponseLemmas.{tried_all, try_failed, try_opened, opens_none, opens_some}

@@ -1,4 +1,4 @@
-use Rattle.std.proofs.Common.{◌≡◌, ◌-◌, ◌≤◌, ℕ, List, length}
+use Rattle.std.proofs.Common.{◌≡◌, ◌-◌, ◌≤◌, List, length}
 use Rattle.std.specs.List.{range_with_len}
 use Rattle.ota_core.specs.History.{first_some}
 use Rattle.ota_core.specs.declared.entries.Entry.{Entry}

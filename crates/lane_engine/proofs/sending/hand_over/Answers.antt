@@ -1,4 +1,4 @@
-use Rattle.std.proofs.Common.{◌≤◌, ◌+◌, arith}
+use Rattle.std.proofs.Common.{arith}
 use Rattle.lane_engine.proofs.SendLemmas.{handed_none, piece_handed, piece_stopped}
 use Rattle.lane_engine.proofs.sending.hand_over.Goals as goal
 

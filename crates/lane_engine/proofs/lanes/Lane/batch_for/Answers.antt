@@ -1,20 +1,11 @@
-use Rattle.std.proofs.Common.{◌≡◌, ◌≤◌, ℕ, List, Some, None, false, All, length, reverse, sym, ◌∙◌, subst, arith}
-use Rattle.std.proofs.Math.Nat.{le-max_right}
+use Rattle.std.proofs.Common.{◌≡◌, Some, reverse, sym, subst}
 use Rattle.std.proofs.lemmas.Result.{err_from_is_err_and}
-use Rattle.std.specs.List.{list_any}
-use Rattle.ota_core.specs.History.{broken_batch}
-use Rattle.ota_core.specs.Questions.{last_moment}
-use Rattle.ota_core.specs.declared.entries.Entry.{Entry}
-use Rattle.counter_journal.specs.EntryRanges.{IsSized, IsOfLane}
 use Rattle.keyset_book.specs.Book.{StandsFor}
 use Rattle.keyset_book.specs.declared.books.Book.{Book}
-use Rattle.lane_engine.specs.Adding.{moment_for, is_settlement}
-use Rattle.lane_engine.specs.LaneValue.{LaneValue, IsLane}
+use Rattle.lane_engine.specs.Adding.{moment_for}
+use Rattle.lane_engine.specs.LaneValue.{LaneValue}
 use Rattle.lane_engine.specs.Reserving.{jobs_refusal, reserves_of}
-use Rattle.lane_engine.specs.declared.answers.LaneErr.{LaneErr}
-use Rattle.lane_engine.specs.declared.answers.LaneErr.TheVariants as lane_err
-use Rattle.lane_engine.proofs.RefusalLemmas.{IsRefusal, jobs_refused, none_added, none_cause, none_run, refused_answer, refuses_no_fault}
-use Rattle.lane_engine.proofs.ReservingLemmas.{reserves_legal, reserves_length, reserves_of_lane, reserves_settle_none, reserves_sized}
+use Rattle.lane_engine.proofs.RefusalLemmas.{jobs_refused, refused_answer, refuses_no_fault}
 use Rattle.lane_engine.proofs.lanes.Lane.batch_for.Goals as goal
 
 pub returns-in_err-may_reserve_all-clause-refused : goal.returns-in_err-may_reserve_all-clause-refused

@@ -1,4 +1,4 @@
-use Rattle.std.proofs.Common.{◌≡◌, ◌%◌, ℕ, List, [], None, Err, Result, All, reverse, max, refl, sym, ◌∙◌, subst}
+use Rattle.std.proofs.Common.{◌≡◌, ◌%◌, List, [], None, Err, All, reverse, refl, sym, ◌∙◌, subst}
 use Rattle.std.proofs.Math.Nat.{le-max_right}
 use Rattle.ota_core.specs.History.{broken_batch}
 use Rattle.ota_core.specs.Questions.{state_of, last_moment}
@@ -8,10 +8,9 @@ use Rattle.ota_core.specs.declared.questions.KeysetState.TheVariants as state
 use Rattle.counter_journal.specs.EntryRanges.{IsOfLane}
 use Rattle.keyset_book.specs.Book.{StandsFor}
 use Rattle.keyset_book.specs.declared.books.Book.{Book}
-use Rattle.lane_engine.specs.Adding.{moment_for, IsAddingRun}
+use Rattle.lane_engine.specs.Adding.{moment_for}
 use Rattle.lane_engine.specs.LaneValue.{LaneValue, IsLane}
 use Rattle.lane_engine.specs.Reserving.{close_of}
-use Rattle.lane_engine.specs.declared.answers.LaneErr.{LaneErr}
 use Rattle.lane_engine.specs.declared.answers.LaneErr.TheVariants as lane_err
 use Rattle.lane_engine.proofs.KeysetLemmas.{refused_run, wanting_run, close_legal, close_of_lane, open_of_lane}
 use Rattle.lane_engine.proofs.lanes.Lane.close_keyset.Goals as goal

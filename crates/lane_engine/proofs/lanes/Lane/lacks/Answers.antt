@@ -1,4 +1,4 @@
-use Rattle.std.proofs.Common.{◌≡◌, Bool, true, false, not, reverse, sym, ◌∙◌, subst}
+use Rattle.std.proofs.Common.{◌≡◌, true, false, not, reverse, sym, ◌∙◌, subst}
 use Rattle.std.specs.List.{list_any}
 use Rattle.ota_core.specs.Entry.{is_open_of}
 use Rattle.keyset_book.specs.Book.{StandsFor}

@@ -1,6 +1,4 @@
-use Rattle.std.proofs.Common.{refl, subst, sym, ◌∙◌}
-use Rattle.disk_model.specs.Disk.{Tells}
-use Rattle.lane_engine.specs.LaneValue.{LaneValue}
+use Rattle.std.proofs.Common.{refl, ap, ◌∙◌}
 use Rattle.lane_engine.proofs.OpeningLemmas.{opened_kept}
 use Rattle.lane_engine.proofs.lanes.Lane.open.Goals as goal
 
@@ -12,10 +10,12 @@ returns-in-Ok-open-clause-kept g c =
       lane_is = c.in-Ok-open.ensures.lane.0;
       lanes_are = c.in-Ok-open.ensures.lane.1;
       not_stale = refl;
+      lost = ap (λ v. v.items) c.of-in-Ok-open-2.ensures ∙ c.new-in-Ok-open-3.ensures.items;
       silent = c.new-in-Ok-open.ensures.keeps;
       moment = refl;
       name = c.new-in-Ok-open-2.ensures;
       end = refl;
     })
     c.in-Ok-open.ensures.tells (λ tells. c.in-Ok-open.ensures.moments tells) (λ tells. g.met.T.DiskCalls.seen_is_image c.args.site tells)
+    c.in-Ok-open.ensures.history (λ tells. c.in-Ok-open.ensures.ready tells)
     c.in-Ok-open.ensures.cause.faults c.in-Ok-open.ensures.cause.wants

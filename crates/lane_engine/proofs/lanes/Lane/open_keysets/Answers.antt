@@ -1,4 +1,4 @@
-use Rattle.std.proofs.Common.{◌≡◌, ◌≤◌, ℕ, List, [], None, Ok, false, All, length, reverse, max, refl, sym, ◌∙◌, subst, arith}
+use Rattle.std.proofs.Common.{◌≡◌, ◌≤◌, List, [], None, Ok, false, All, length, reverse, refl, sym, ◌∙◌, subst, arith}
 use Rattle.std.proofs.lemmas.Result.{err_from_is_err_and}
 use Rattle.std.proofs.Math.Nat.{le-max_right}
 use Rattle.std.specs.List.{list_any}
@@ -14,7 +14,7 @@ use Rattle.lane_engine.proofs.KeysetLemmas.{refused_run}
 use Rattle.lane_engine.proofs.RefusalLemmas.{none_run}
 use Rattle.lane_engine.proofs.OpenLemmas.{opens_few, opens_sized, opens_of_lane, opens_legal, opens_settle_none}
 use Rattle.std.specs.Vec.{vec_len}
-use Rattle.lane_engine.proofs.OpenLemmas.{no_items}
+use Rattle.lane_engine.proofs.OpenLemmas.{no_items, some_items}
 use Rattle.lane_engine.proofs.lanes.Lane.open_keysets.Goals as goal
 
 -- src/keysets.rt:42:9
@@ -64,3 +64,7 @@ returns-then-is_empty-clause-run g c = λ tells.
     subst (λ (b : List Entry). IsAddingRun g.T.DiskCalls.told g.T.SiteCalls.port g.T.SiteCalls.lines c.args.self.now c.args.self.now b (Ok tt)) (sym none ∙ c.in_ok-opens.ensures)
     (refused_run g.T.DiskCalls.told g.T.SiteCalls.port g.T.SiteCalls.lines c.args.self.now [] (Ok tt)
     (subst (λ (v : LaneValue g.row.T.Denot). IsLane g.T.DiskCalls.told v) c.self.view_is c.self.invariant) tells refl refl)
+
+pub returns-clause-idle : goal.returns-clause-idle
+returns-clause-idle g c = λ none.
+    absurd (some_items c.in_ok-opens.opens.items (vec_len c.in_ok-opens.opens) (sym c.in_ok-opens.opens.ok.0) c.if-is_empty.ensures (c.in_ok-opens.ensures ∙ none))

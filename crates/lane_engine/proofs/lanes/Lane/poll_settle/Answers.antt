@@ -1,10 +1,11 @@
-use Rattle.std.proofs.Common.{◌≡◌, ◌+◌, ◌++◌, ◌∷◌, [], arith, IsTrue, IfNone, IfSome, Ok, ap, subst, sym, refl, ◌∙◌}
+use Rattle.std.proofs.lemmas.Result.{err_from_is_err_and}
+use Rattle.std.proofs.Common.{◌≡◌, ◌+◌, ◌++◌, ◌∷◌, [], arith, IsTrue, IfNone, IfSome, Ok, ap, subst, sym, ◌∙◌}
 use Rattle.disk_model.specs.Disk.{Tells}
 use Rattle.site_model.specs.Cards.{port_now}
 use Rattle.site_model.specs.Causes.{CountsEmpty, empty_polls}
 use Rattle.lane_engine.specs.LaneValue.{LaneValue, IsLane}
 use Rattle.lane_engine.specs.declared.answers.Poll.{Poll}
-use Rattle.lane_engine.proofs.PollCallLemmas.{asked_stopped, events_call, kept_call, later_heard, nothing_heard, polled_heard, told_heard, told_none, went_on_call, unpolled_same, went_on_unpolled}
+use Rattle.lane_engine.proofs.PollCallLemmas.{asked_stopped, events_call, events_none, kept_call, later_heard, loses_heard, loses_none, nothing_heard, polled_heard, told_heard, told_none, went_on_call, unpolled_same, went_on_unpolled}
 use Rattle.lane_engine.proofs.PolledLemmas.{asked_from, kept_fault, kept_none, kept_unpolled, went_on_asked}
 use Rattle.lane_engine.proofs.lanes.Lane.poll_settle.Goals as goal
 
@@ -86,3 +87,30 @@ returns-in-Some-clause-later g c =
 pub returns-in-Some-clause-kept : goal.returns-in-Some-clause-kept
 returns-in-Some-clause-kept g c = λ opening kept.
     kept_call g.T.DiskCalls.told g.T.DiskCalls.counts g.T.SiteCalls.port g.T.SiteCalls.lines opening c.args.self.now c.ask.new.self (subst (λ (v : LaneValue g.row.T.Denot). IsLane g.T.DiskCalls.told v) c.self.view_is c.self.invariant) (sym (ap (λ (v : LaneValue g.row.T.Denot). v.is_stale) c.self.view_is) ∙ c.if-self.false) (λ d tells. g.met.T.DiskCalls.seen_is_image d tells) (asked_from g.T.DiskCalls.told g.T.DiskCalls.counts g.T.SiteCalls.port g.T.SiteCalls.lines c.args.self.now c.make_room.new.self c.ask.new.self c.make_room.ensures.same c.ask.ensures.asked c.ask.ensures.tells c.ask.ensures.cause.faults c.ask.ensures.cause.wants (λ tells. c.ask.ensures.run tells) (λ tells. c.ask.ensures.keeps tells)) kept c.hear.new.self c.args.by (c.in-Some.card, c.as_slice.result.now) c.hear.result c.in_ok-ask.ensures.answer c.hear.ensures.heard (subst (λ d. Tells g.T.DiskCalls.told d → (port_now g.T.DiskCalls.told g.T.SiteCalls.port g.T.SiteCalls.lines c.ask.new.self.site).given ≡ (port_now g.T.DiskCalls.told g.T.SiteCalls.port g.T.SiteCalls.lines d).given ++ (c.in-Some.card, c.as_slice.result.now) ∷ []) c.make_room.ensures.same.site (λ tells. subst (λ l. (port_now g.T.DiskCalls.told g.T.SiteCalls.port g.T.SiteCalls.lines c.ask.new.self.site).given ≡ (port_now g.T.DiskCalls.told g.T.SiteCalls.port g.T.SiteCalls.lines c.make_room.new.self.site).given ++ (c.in-Some.card, l) ∷ []) (sym c.as_slice.ensures.value) (subst (λ o. IfSome o (λ m. (port_now g.T.DiskCalls.told g.T.SiteCalls.port g.T.SiteCalls.lines c.ask.new.self.site).given ≡ (port_now g.T.DiskCalls.told g.T.SiteCalls.port g.T.SiteCalls.lines c.make_room.new.self.site).given ++ (m.0, m.1.items) ∷ [])) c.in-Some.is (c.in_ok-ask.ensures.given tells)))) c.hear.ensures.tells c.hear.ensures.cause
+
+pub returns-in_err-room-clause-lost : goal.returns-in_err-room-clause-lost
+returns-in_err-room-clause-lost g c = λ tells.
+    loses_none c.args.self.now c.make_room.new.self c.args.by (port_now g.T.DiskCalls.told g.T.SiteCalls.port g.T.SiteCalls.lines c.args.self.now.site) (port_now g.T.DiskCalls.told g.T.SiteCalls.port g.T.SiteCalls.lines c.make_room.new.self.site) c.from_residual.result
+    (c.make_room.ensures.same.lost ∙ (subst (λ (v : LaneValue g.row.T.Denot). IsLane g.T.DiskCalls.told v) c.self.view_is c.self.invariant).whole (sym (ap (λ (v : LaneValue g.row.T.Denot). v.is_stale) c.self.view_is) ∙ c.if-self.false))
+
+pub returns-in_err-has_room-clause-lost : goal.returns-in_err-has_room-clause-lost
+returns-in_err-has_room-clause-lost g c = λ tells.
+    loses_none c.args.self.now c.make_room.new.self c.args.by (port_now g.T.DiskCalls.told g.T.SiteCalls.port g.T.SiteCalls.lines c.args.self.now.site) (port_now g.T.DiskCalls.told g.T.SiteCalls.port g.T.SiteCalls.lines c.make_room.new.self.site) c.from_residual-in_err-has_room.result
+    (c.make_room.ensures.same.lost ∙ (subst (λ (v : LaneValue g.row.T.Denot). IsLane g.T.DiskCalls.told v) c.self.view_is c.self.invariant).whole (sym (ap (λ (v : LaneValue g.row.T.Denot). v.is_stale) c.self.view_is) ∙ c.if-self.false))
+
+pub returns-in_err-ask-clause-lost : goal.returns-in_err-ask-clause-lost
+returns-in_err-ask-clause-lost g c = λ tells.
+    loses_none c.args.self.now c.ask.new.self c.args.by (port_now g.T.DiskCalls.told g.T.SiteCalls.port g.T.SiteCalls.lines c.args.self.now.site) (port_now g.T.DiskCalls.told g.T.SiteCalls.port g.T.SiteCalls.lines c.ask.new.self.site) c.from_residual-in_err-ask.result
+    (c.ask.ensures.asked.lost ∙ c.make_room.ensures.same.lost ∙ (subst (λ (v : LaneValue g.row.T.Denot). IsLane g.T.DiskCalls.told v) c.self.view_is c.self.invariant).whole (sym (ap (λ (v : LaneValue g.row.T.Denot). v.is_stale) c.self.view_is) ∙ c.if-self.false))
+
+pub returns-in_err-ask-clause-events : goal.returns-in_err-ask-clause-events
+returns-in_err-ask-clause-events g c = λ opening tells kept fair.
+    let p = err_from_is_err_and c.from_residual-in_err-ask.result c.from_residual-in_err-ask.ensures.1 in
+    rw (p.1, p.2)
+    (events_none g.T.DiskCalls.told g.T.SiteCalls.port g.T.SiteCalls.lines c.args.self.now c.ask.new.self c.args.by c.in_err-ask.field-0.0
+    (ap (λ j. j.entries) c.ask.ensures.asked.journal ∙ c.make_room.ensures.same.entries) (c.ask.ensures.asked.lost ∙ c.make_room.ensures.same.lost ∙ (subst (λ (v : LaneValue g.row.T.Denot). IsLane g.T.DiskCalls.told v) c.self.view_is c.self.invariant).whole (sym (ap (λ (v : LaneValue g.row.T.Denot). v.is_stale) c.self.view_is) ∙ c.if-self.false)))
+
+pub returns-in-Some-clause-lost : goal.returns-in-Some-clause-lost
+returns-in-Some-clause-lost g c = λ tells.
+    loses_heard g.T.DiskCalls.told g.T.DiskCalls.counts g.T.SiteCalls.port g.T.SiteCalls.lines c.args.self.now c.ask.new.self (sym (ap (λ (v : LaneValue g.row.T.Denot). v.is_stale) c.self.view_is) ∙ c.if-self.false) (asked_from g.T.DiskCalls.told g.T.DiskCalls.counts g.T.SiteCalls.port g.T.SiteCalls.lines c.args.self.now c.make_room.new.self c.ask.new.self c.make_room.ensures.same c.ask.ensures.asked c.ask.ensures.tells c.ask.ensures.cause.faults c.ask.ensures.cause.wants (λ tells. c.ask.ensures.run tells) (λ tells. c.ask.ensures.keeps tells)) c.hear.new.self c.args.by (c.in-Some.card, c.as_slice.result.now) c.hear.result c.hear.ensures.heard tells
+    ((subst (λ d. Tells g.T.DiskCalls.told d → (port_now g.T.DiskCalls.told g.T.SiteCalls.port g.T.SiteCalls.lines c.ask.new.self.site).given ≡ (port_now g.T.DiskCalls.told g.T.SiteCalls.port g.T.SiteCalls.lines d).given ++ (c.in-Some.card, c.as_slice.result.now) ∷ []) c.make_room.ensures.same.site (λ tells. subst (λ l. (port_now g.T.DiskCalls.told g.T.SiteCalls.port g.T.SiteCalls.lines c.ask.new.self.site).given ≡ (port_now g.T.DiskCalls.told g.T.SiteCalls.port g.T.SiteCalls.lines c.make_room.new.self.site).given ++ (c.in-Some.card, l) ∷ []) (sym c.as_slice.ensures.value) (subst (λ o. IfSome o (λ m. (port_now g.T.DiskCalls.told g.T.SiteCalls.port g.T.SiteCalls.lines c.ask.new.self.site).given ≡ (port_now g.T.DiskCalls.told g.T.SiteCalls.port g.T.SiteCalls.lines c.make_room.new.self.site).given ++ (m.0, m.1.items) ∷ [])) c.in-Some.is (c.in_ok-ask.ensures.given tells)))) tells)

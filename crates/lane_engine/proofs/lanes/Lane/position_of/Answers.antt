@@ -1,5 +1,5 @@
-use Rattle.std.proofs.Common.{◌≡◌, ◌≤◌, ℕ, Some, None, List, length, sym, ◌∙◌, ap, subst, arith}
-use Rattle.std.specs.List.{position, position_or_len}
+use Rattle.std.proofs.Common.{◌≡◌, ◌≤◌, List, length, sym, ◌∙◌, ap, subst, arith}
+use Rattle.std.specs.List.{position_or_len}
 use Rattle.ota_core.specs.Entry.{is_reserve_of}
 use Rattle.ota_core.specs.declared.entries.Entry.{Entry}
 use Rattle.keyset_book.specs.Book.{StandsFor}

@@ -1,13 +1,12 @@
-use Rattle.std.proofs.Common.{◌≡◌, ℕ, Option, Some, None, false, true, List, reverse, sym, ◌∙◌, ap, subst}
+use Rattle.std.proofs.Common.{◌≡◌, Some, None, false, true, reverse, sym, subst}
 use Rattle.std.proofs.lemmas.Result.{err_from_is_err_and}
 use Rattle.std.specs.List.{list_any}
-use Rattle.disk_model.specs.Disk.{Tells}
 use Rattle.ota_core.specs.Entry.{Reservation, is_reserve_of}
 use Rattle.keyset_book.specs.Book.{StandsFor}
 use Rattle.keyset_book.specs.declared.books.Book.{Book}
 use Rattle.lane_engine.specs.LaneValue.{LaneValue, IsLane}
 use Rattle.lane_engine.specs.Reserving.{resend_refusal}
-use Rattle.lane_engine.proofs.CourseLemmas.{hearing_of, journal_of, refused_gone_on}
+use Rattle.lane_engine.proofs.CourseLemmas.{hearing_of, journal_of, lost_of, refused_gone_on}
 use Rattle.lane_engine.proofs.LeavingLemmas.{at_reserved}
 use Rattle.lane_engine.proofs.RefusalLemmas.{none_cause, none_resent, refused_resend, refuses_no_fault, resend_refused}
 use Rattle.lane_engine.proofs.ResentLemmas.{resent_events, resent_sent}
@@ -74,6 +73,7 @@ returns-clause-went_on g c = λ opening tells kept fair.
     sent_gone_on g.T.DiskCalls.told g.T.DiskCalls.counts g.T.SiteCalls.port g.T.SiteCalls.lines c.args.self.now c.send_at.new.self _ _ c.send_at.result
     (subst (λ (v : LaneValue g.row.T.Denot). IsLane g.T.DiskCalls.told v) c.self.view_is c.self.invariant) (subst (λ (v : LaneValue g.row.T.Denot). v.is_stale ≡ false) c.self.view_is c.if-self.false) (λ told_so. g.met.T.DiskCalls.seen_is_image c.args.self.now.site told_so)
     (journal_of c.args.self.now c.send_at.new.self c.send_at.result c.send_at.ensures.answer c.send_at.ensures.resent)
+    (lost_of c.args.self.now c.send_at.new.self c.send_at.result c.send_at.ensures.answer c.send_at.ensures.resent)
     (hearing_of c.args.self.now c.send_at.new.self c.send_at.result c.send_at.ensures.answer c.send_at.ensures.resent)
     c.send_at.ensures.tells c.send_at.ensures.cause.faults c.send_at.ensures.cause.wants c.send_at.ensures.hands (at_reserved c.args.self.now.journal.entries c.position_of-position.result) opening kept tells fair
 
@@ -85,6 +85,7 @@ returns-clause-later g c =
     sent_later g.T.DiskCalls.told g.T.DiskCalls.counts g.T.SiteCalls.port g.T.SiteCalls.lines c.args.self.now c.send_at.new.self _ _ c.send_at.result
     (subst (λ (v : LaneValue g.row.T.Denot). IsLane g.T.DiskCalls.told v) c.self.view_is c.self.invariant) (subst (λ (v : LaneValue g.row.T.Denot). v.is_stale ≡ false) c.self.view_is c.if-self.false) (λ told_so. g.met.T.DiskCalls.seen_is_image c.args.self.now.site told_so)
     (journal_of c.args.self.now c.send_at.new.self c.send_at.result c.send_at.ensures.answer c.send_at.ensures.resent)
+    (lost_of c.args.self.now c.send_at.new.self c.send_at.result c.send_at.ensures.answer c.send_at.ensures.resent)
     (hearing_of c.args.self.now c.send_at.new.self c.send_at.result c.send_at.ensures.answer c.send_at.ensures.resent)
     c.send_at.ensures.tells c.send_at.ensures.cause.faults c.send_at.ensures.cause.wants c.send_at.ensures.hands (at_reserved c.args.self.now.journal.entries c.position_of-position.result)
 
@@ -96,5 +97,6 @@ returns-clause-kept g c = λ opening kept.
     sent_kept g.T.DiskCalls.told g.T.DiskCalls.counts g.T.SiteCalls.port g.T.SiteCalls.lines c.args.self.now c.send_at.new.self _ _ c.send_at.result
     (subst (λ (v : LaneValue g.row.T.Denot). IsLane g.T.DiskCalls.told v) c.self.view_is c.self.invariant) (subst (λ (v : LaneValue g.row.T.Denot). v.is_stale ≡ false) c.self.view_is c.if-self.false) (λ told_so. g.met.T.DiskCalls.seen_is_image c.args.self.now.site told_so)
     (journal_of c.args.self.now c.send_at.new.self c.send_at.result c.send_at.ensures.answer c.send_at.ensures.resent)
+    (lost_of c.args.self.now c.send_at.new.self c.send_at.result c.send_at.ensures.answer c.send_at.ensures.resent)
     (hearing_of c.args.self.now c.send_at.new.self c.send_at.result c.send_at.ensures.answer c.send_at.ensures.resent)
     c.send_at.ensures.tells c.send_at.ensures.cause.faults c.send_at.ensures.cause.wants c.send_at.ensures.hands (at_reserved c.args.self.now.journal.entries c.position_of-position.result) opening kept

@@ -1,8 +1,8 @@
-use Rattle.std.proofs.Common.{◌≡◌, ◌≤◌, ◌++◌, ◌-◌, IsTrue, drop, ℕ, List, Some, None, Ok, Err, false, All, length, reverse, refl, sym, ◌∙◌, ap, subst, arith}
+use Rattle.std.proofs.Common.{◌≡◌, ◌≤◌, ◌++◌, ◌-◌, IsTrue, drop, ℕ, List, None, Ok, Err, false, All, length, reverse, refl, sym, ◌∙◌, ap, subst, arith}
 use Rattle.std.proofs.Math.Nat.{le-max_right}
 use Rattle.std.proofs.lemmas.Result.{err_from_is_err_and}
 use Rattle.std.specs.List.{list_any}
-use Rattle.disk_model.specs.Disk.{Tells, image_now}
+use Rattle.disk_model.specs.Disk.{Tells}
 use Rattle.ota_core.specs.History.{broken_batch}
 use Rattle.ota_core.specs.Questions.{last_moment}
 use Rattle.ota_core.specs.declared.entries.Entry.{Entry}
@@ -12,14 +12,13 @@ use Rattle.site_model.specs.Cards.{port_now}
 use Rattle.lane_engine.specs.Departing.{pieces_from}
 use Rattle.lane_engine.specs.Sending.{HandsOverBuilt}
 use Rattle.lane_engine.specs.Adding.{AddingAnswer, IsAdded, IsAddition, IsAddingRun, moment_for, is_settlement}
-use Rattle.lane_engine.specs.Kept.{Opening, IsFair, KeptSince}
-use Rattle.lane_engine.specs.declared.answers.LaneErr.{LaneErr}
 use Rattle.lane_engine.specs.LaneValue.{LaneValue, IsLane}
 use Rattle.lane_engine.specs.Packets.{departures_for}
 use Rattle.lane_engine.specs.Reserving.{jobs_refusal, reserves_of}
 use Rattle.lane_engine.proofs.RefusalLemmas.{none_asked, none_cause, none_handed, none_sending, none_sending_events}
 use Rattle.lane_engine.proofs.ReservingLemmas.{reserves_legal, reserves_length, reserves_of_lane, reserves_settle_none, reserves_sized}
-use Rattle.lane_engine.proofs.CourseLemmas.{adding_gone_on, cause_then, course_added, course_answer, course_events, course_gone_on, course_only_added, course_sent, course_unasked, failed_events, failed_sending, later_then, refused_gone_on}
+use Rattle.lane_engine.specs.KeepingLaws.{is_later_chain}
+use Rattle.lane_engine.proofs.CourseLemmas.{added_whole, adding_gone_on, cause_then, course_added, course_answer, course_events, course_gone_on, course_only_added, course_sent, course_whole, course_unasked, failed_events, failed_sending, idle_whole, refused_gone_on}
 use Rattle.lane_engine.proofs.lanes.Lane.reserve_and_send.Goals as goal
 
 pub returns-then-self-clause-went_on : goal.returns-then-self-clause-went_on
@@ -119,7 +118,8 @@ returns-in_err-append-clause-events g c = λ tells.
     let p = err_from_is_err_and c.from_residual-in_err-append.result c.from_residual-in_err-append.ensures.1 in
     rw (p.1, p.2)
     (failed_events g.T.DiskCalls.told g.T.DiskCalls.counts g.T.SiteCalls.port g.T.SiteCalls.lines c.args.self.now c.append.new.self (reserves_of c.args.by (moment_for c.args.self.now) c.args.self.now.name (reverse c.args.self.now.journal.entries) c.args.jobs.now) c.in_err-append.field-0.0
-    (subst (λ (b : List Entry). IsAddition c.args.self.now c.append.new.self b (Err c.in_err-append.field-0.0)) c.in_ok-batch.ensures.batch c.in_err-append.ensures.added))
+    (subst (λ (b : List Entry). IsAddition c.args.self.now c.append.new.self b (Err c.in_err-append.field-0.0)) c.in_ok-batch.ensures.batch c.in_err-append.ensures.added)
+    (subst (λ (b : List Entry). IsAddingRun g.T.DiskCalls.told g.T.SiteCalls.port g.T.SiteCalls.lines c.args.self.now c.append.new.self b (Err c.in_err-append.field-0.0)) c.in_ok-batch.ensures.batch (c.in_err-append.ensures.run tells)))
 
 pub returns-in_err-append-clause-went_on : goal.returns-in_err-append-clause-went_on
 returns-in_err-append-clause-went_on g c = λ opening tells kept fair.
@@ -249,8 +249,36 @@ returns-clause-cause g c =
 
 pub returns-clause-later : goal.returns-clause-later
 returns-clause-later g c =
-    later_then g.T.DiskCalls.told g.T.DiskCalls.counts g.T.SiteCalls.port g.T.SiteCalls.lines c.args.self.now c.append.new.self c.send_from.new.self c.append.ensures.later c.send_from.ensures.later
+    is_later_chain g.T.DiskCalls.told g.T.DiskCalls.counts g.T.SiteCalls.port g.T.SiteCalls.lines c.args.self.now c.append.new.self c.send_from.new.self c.append.ensures.later c.send_from.ensures.later
 
 pub returns-clause-kept : goal.returns-clause-kept
 returns-clause-kept g c = λ opening kept.
     c.send_from.ensures.kept opening (c.append.ensures.kept (subst (λ (l : List Entry). list_any is_settlement l ≡ false) (sym c.in_ok-batch.ensures.batch) (reserves_settle_none c.args.by (moment_for c.args.self.now) c.args.self.now.name (reverse c.args.self.now.journal.entries) c.args.jobs.now)) opening kept)
+
+pub returns-then-self-clause-moments : goal.returns-then-self-clause-moments
+returns-then-self-clause-moments g c = λ tells live.
+    idle_whole g.T.DiskCalls.told g.T.SiteCalls.port g.T.SiteCalls.lines c.args.self.now (reserves_of c.args.by (moment_for c.args.self.now) c.args.self.now.name (reverse c.args.self.now.journal.entries) c.args.jobs.now) (subst (λ (v : LaneValue g.row.T.Denot). IsLane g.T.DiskCalls.told v) c.self.view_is c.self.invariant) live tells
+
+pub returns-in_err-batch-clause-moments : goal.returns-in_err-batch-clause-moments
+returns-in_err-batch-clause-moments g c = λ tells live.
+    idle_whole g.T.DiskCalls.told g.T.SiteCalls.port g.T.SiteCalls.lines c.args.self.now (reserves_of c.args.by (moment_for c.args.self.now) c.args.self.now.name (reverse c.args.self.now.journal.entries) c.args.jobs.now) (subst (λ (v : LaneValue g.row.T.Denot). IsLane g.T.DiskCalls.told v) c.self.view_is c.self.invariant) live tells
+
+pub returns-in_err-append-clause-moments : goal.returns-in_err-append-clause-moments
+returns-in_err-append-clause-moments g c = λ tells live.
+    added_whole g.T.DiskCalls.told g.T.SiteCalls.port g.T.SiteCalls.lines c.args.self.now c.append.new.self (reserves_of c.args.by (moment_for c.args.self.now) c.args.self.now.name (reverse c.args.self.now.journal.entries) c.args.jobs.now) (Err c.in_err-append.field-0.0)
+    (subst (λ (b : List Entry). IsAddingRun g.T.DiskCalls.told g.T.SiteCalls.port g.T.SiteCalls.lines c.args.self.now c.append.new.self b (Err c.in_err-append.field-0.0)) c.in_ok-batch.ensures.batch (c.in_err-append.ensures.run tells)) live
+
+pub returns-clause-moments : goal.returns-clause-moments
+returns-clause-moments g c = λ tells live.
+    course_whole g.T.DiskCalls.told g.T.DiskCalls.counts g.T.SiteCalls.port g.T.SiteCalls.lines c.args.self.now c.append.new.self c.send_from.new.self
+    (reserves_of c.args.by (moment_for c.args.self.now) c.args.self.now.name (reverse c.args.self.now.journal.entries) c.args.jobs.now) c.send_from.result
+    (let long = reserves_length c.args.by (moment_for c.args.self.now) c.args.self.now.name (reverse c.args.self.now.journal.entries) c.args.jobs.now in let some = c.requires.some in omega (arith, long, some))
+    (reserves_legal c.args.by (moment_for c.args.self.now) c.args.self.now.name (reverse c.args.self.now.journal.entries) c.args.jobs.now c.in_ok-batch.ensures.free (le-max_right c.args.self.now.moment (last_moment (reverse c.args.self.now.journal.entries))))
+    (reserves_settle_none c.args.by (moment_for c.args.self.now) c.args.self.now.name (reverse c.args.self.now.journal.entries) c.args.jobs.now)
+    (subst (λ (v : LaneValue g.row.T.Denot). v.is_stale ≡ false) c.self.view_is c.if-self.false)
+    (subst (λ (b : List Entry). IsAdded c.args.self.now c.append.new.self b) c.in_ok-batch.ensures.batch c.in_ok-append.ensures.added)
+    (λ tells. subst (λ (b : List Entry). IsAddingRun g.T.DiskCalls.told g.T.SiteCalls.port g.T.SiteCalls.lines c.args.self.now c.append.new.self b (Ok tt)) c.in_ok-batch.ensures.batch (c.in_ok-append.ensures.run tells))
+    c.append.ensures.later.tells c.send_from.ensures.answer c.send_from.ensures.resent
+    (subst (λ (n : ℕ). Tells g.T.DiskCalls.told c.append.new.self.site → HandsOverBuilt g.T.DiskCalls.told g.T.SiteCalls.port g.T.SiteCalls.lines c.append.new.self.journal.entries c.append.new.self.site c.send_from.new.self.site (departures_for c.append.new.self.journal.entries (drop n c.append.new.self.journal.entries)) (pieces_from c.append.new.self.journal.entries n (length c.append.new.self.journal.entries - n)) c.send_from.result)
+    (ap (λ (l : List Entry). length l) (c.entries-first.ensures.entries ∙ c.history.ensures.entries ∙ ap (λ (v : LaneValue g.row.T.Denot). v.journal.entries) c.self.view_is)) c.send_from.ensures.hands)
+    tells
