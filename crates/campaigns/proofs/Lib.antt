@@ -1,3 +1,4 @@
+pub mod DifferenceLemmas
 pub mod DrillLemmas
 pub mod PieceLemmas
 pub mod PlacingLemmas

@@ -1,3 +1,9 @@
 pub mod WorkList
 pub mod Batching
 pub mod Drill
+pub mod Rows
+pub mod Differences
+pub mod DifferenceSteps
+pub mod Growing
+pub mod LiveCounts
+pub mod LiveLaws

@@ -10,16 +10,16 @@ use senders::Work;
 use std::alloc::Global;
 use std::test::Fail;
 
-const TAR: Tar = Tar([0xB0, 0x00, 0x10]);
+pub(crate) const TAR: Tar = Tar([0xB0, 0x00, 0x10]);
 
-fn keyset(card: u64) -> KeysetId {
+pub(crate) fn keyset(card: u64) -> KeysetId {
     KeysetId {
         card: CardId(card),
         kvn: 1,
     }
 }
 
-fn opened(card: u64, base: Counter) -> Result<Entry, Fail> {
+pub(crate) fn opened(card: u64, base: Counter) -> Result<Entry, Fail> {
     let key = KeyBytes::new(&[7; 16]).ok().ok_or("a key has 16 octets")?;
     Ok(Entry::Open {
         by: 0,
@@ -35,7 +35,12 @@ fn opened(card: u64, base: Counter) -> Result<Entry, Fail> {
     })
 }
 
-fn reserved(alloc: Global, card: u64, counter: Counter, job: u32) -> Result<Entry, Memory> {
+pub(crate) fn reserved(
+    alloc: Global,
+    card: u64,
+    counter: Counter,
+    job: u32,
+) -> Result<Entry, Memory> {
     Ok(Entry::Reserve {
         by: 1,
         moment: 0,
@@ -48,7 +53,7 @@ fn reserved(alloc: Global, card: u64, counter: Counter, job: u32) -> Result<Entr
     })
 }
 
-fn done(alloc: Global, card: u64, counter: Counter) -> Result<Entry, Memory> {
+pub(crate) fn done(alloc: Global, card: u64, counter: Counter) -> Result<Entry, Memory> {
     Ok(Entry::Done {
         by: 1,
         moment: 0,
@@ -58,7 +63,7 @@ fn done(alloc: Global, card: u64, counter: Counter) -> Result<Entry, Memory> {
     })
 }
 
-fn refused(card: u64, counter: Counter) -> Entry {
+pub(crate) fn refused(card: u64, counter: Counter) -> Entry {
     Entry::Refused {
         by: 1,
         moment: 0,
@@ -77,7 +82,7 @@ fn job(alloc: Global, job: u32, card: u64) -> Result<Job, Memory> {
     })
 }
 
-fn add(history: &mut History, entry: Entry) -> Result<(), Fail> {
+pub(crate) fn add(history: &mut History, entry: Entry) -> Result<(), Fail> {
     if history.may_add(&entry).is_err() {
         return Err(Fail::from("the entry is illegal"));
     }
