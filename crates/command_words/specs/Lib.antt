@@ -1,0 +1,4 @@
+pub mod Drills
+pub mod Options
+pub mod Values
+pub mod Words
