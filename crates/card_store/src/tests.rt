@@ -133,7 +133,7 @@ fn store(
 }
 
 /// More commands than any script here has.
-const COMMANDS: usize = 16;
+const COMMANDS: usize = 1024;
 
 /// Runs all commands that are left. The error, where there is one.
 fn run(store: &mut CardStore<MemDisk>) -> Result<Option<StoreErr>, Fail>
@@ -169,6 +169,23 @@ fn store_and_run(
     match self::store(store, kvn, counter, tar, body)? {
         Some(error) => Ok(Some(error)),
         None => run(store),
+    }
+}
+
+/// Stores a counter with a script, and runs it.
+fn use_up(
+    store: &mut CardStore<MemDisk>,
+    kvn: u8,
+    counter: Counter,
+    tar: Tar,
+    body: &[u8],
+) -> Result<(), Fail>
+    requires { store.old.ready ≡ true }
+    ensures { IfOk result (λ _. store.new.ready ≡ true) }
+{
+    match store_and_run(store, kvn, counter, tar, body)? {
+        None => Ok(()),
+        Some(_) => Err(Fail::from("the counter is stored, and its script run")),
     }
 }
 
@@ -385,5 +402,148 @@ fn store_takes_what_fits_exactly(rt: HostRuntime) -> Result<(), Fail> {
     let told = told_by(rt.alloc(), NEED, RFM)?;
     assert!(rt; told.0.is_none());
     assert_eq!(rt; told.1, 8);
+    Ok(())
+}
+
+/// Whether the octets of a store's disk are those of these parts, and as many as its log.
+fn holds(alloc: Global, store: &CardStore<MemDisk>, parts: &[&[u8]]) -> Result<bool, Fail> {
+    let octets = log(alloc, parts)?;
+    Ok(store.disk().content() == octets.as_slice() && store.length() == octets.len() as u64)
+}
+
+/// Whether the lines of a store are these.
+fn has_lines(store: &CardStore<MemDisk>, lines: &[CardLine]) -> bool {
+    store.lines() == lines
+}
+
+/// Whether a counter is the one that is stored.
+fn has_counter(store: &CardStore<MemDisk>, kvn: u8, counter: Counter) -> bool {
+    store.counter(kvn) == Some(counter)
+}
+
+/// Whether a store opens again.
+fn reopens(store: &mut CardStore<MemDisk>) -> bool {
+    store.reopen().is_ok()
+}
+
+#[test]
+fn parts_stand_in_batches_of_their_own(rt: HostRuntime) -> Result<(), Fail> {
+    let mut store = opened(rt.alloc(), MemDisk::new(rt.alloc()))?;
+    use_up(&mut store, 1, Counter(1), RFM, &SCRIPT[..7])?;
+    let held = holds(rt.alloc(), &store, &[ONE, RUN])?;
+    assert!(rt; held);
+    // Of a script that isn't run the counter alone is stored.
+    use_up(&mut store, 1, Counter(2), OTHER, &SCRIPT[..7])?;
+    let held = holds(rt.alloc(), &store, &[ONE, RUN, TWO_ELSEWHERE])?;
+    assert!(rt; held);
+    Ok(())
+}
+
+/// Puts keyset 2: it takes the next counter alone and isn't ciphered. GlobalPlatform Card Specification 2.1.1, 9.8; the
+/// data are this product's own.
+const PUT_KEY: &[u8] = &[
+    0x80, 0xD8, 0x00, 0x02, 0x24, 0x03, 0x00, 0x10, 0x10, 0x11, 0x12, 0x13, 0x14, 0x15, 0x16, 0x17,
+    0x18, 0x19, 0x1A, 0x1B, 0x1C, 0x1D, 0x1E, 0x1F, 0x10, 0x20, 0x21, 0x22, 0x23, 0x24, 0x25, 0x26,
+    0x27, 0x28, 0x29, 0x2A, 0x2B, 0x2C, 0x2D, 0x2E, 0x2F,
+];
+
+/// Whether these are the facts of the keyset that was put.
+fn is_put(facts: &KeysetFacts) -> bool {
+    facts.base == Counter(0)
+        && facts.mode == Mode::Next
+        && !facts.ciphered
+        && facts.kic.as_slice() == &PUT_KEY[8..24]
+        && facts.kid.as_slice() == &PUT_KEY[25..]
+}
+
+/// Whether a store has the keyset that was put.
+fn has_put(store: &CardStore<MemDisk>) -> bool {
+    match store.keyset(2) {
+        Some(facts) => is_put(facts),
+        None => false,
+    }
+}
+
+/// Whether a store has the keyset that was put, the counters of both keysets, and what the script wrote.
+fn has_both(store: &CardStore<MemDisk>) -> bool {
+    has_put(store)
+        && has_counter(store, 1, Counter(1))
+        && has_counter(store, 2, Counter(5))
+        && begins_so(store, 0x11, 0x22)
+}
+
+#[test]
+fn keyset_that_was_put_counts_from_0(rt: HostRuntime) -> Result<(), Fail> {
+    let mut store = opened(rt.alloc(), MemDisk::new(rt.alloc()))?;
+    use_up(&mut store, 1, Counter(1), RAM, PUT_KEY)?;
+    assert!(rt; has_put(&store));
+    assert!(rt; has_counter(&store, 2, Counter(0)));
+    use_up(&mut store, 2, Counter(5), RFM, SCRIPT)?;
+    assert!(rt; has_both(&store));
+    assert!(rt; reopens(&mut store));
+    assert!(rt; has_both(&store));
+    Ok(())
+}
+
+/// Selects 6FA2, which isn't there, and then 6FA1.
+const REFUSED: &[u8] = &[
+    0x00, 0xA4, 0x00, 0x00, 0x02, 0x6F, 0xA2, 0x00, 0xA4, 0x00, 0x00, 0x02, 0x6F, 0xA1,
+];
+
+#[test]
+fn rest_that_is_no_command_ends_a_script(rt: HostRuntime) -> Result<(), Fail> {
+    // The third command has lost its octet of data.
+    let mut store = opened(rt.alloc(), MemDisk::new(rt.alloc()))?;
+    use_up(&mut store, 1, Counter(1), RFM, &SCRIPT[..18])?;
+    assert!(rt; has_lines(&store, &[line(Counter(1), 3, true, 0x00)]));
+    assert!(rt; begins_so(&store, 0x11, 0xFF));
+    // A command that is refused ends it, too.
+    use_up(&mut store, 1, Counter(2), RFM, REFUSED)?;
+    let lines = [
+        line(Counter(1), 3, true, 0x00),
+        line(Counter(2), 1, true, 0x00),
+    ];
+    assert!(rt; has_lines(&store, &lines));
+    Ok(())
+}
+
+/// 585 times the MF is selected, and a last octet is no command: 4,096 octets.
+fn longest_script(alloc: Global) -> Result<Vec<u8>, Fail> {
+    let mut body = Vec::new(alloc);
+    for _ in 0..SELECTS {
+        body.extend_from_slice(&[0x00, 0xA4, 0x00, 0x00, 0x02, 0x3F, 0x00])?;
+    }
+    body.push(0x00)?;
+    Ok(body)
+}
+
+const SELECTS: usize = 585;
+
+/// The store of that card, with another buffer, on an empty disk.
+fn opened_with(alloc: Global, buffer: u32) -> Result<CardStore<MemDisk>, Fail>
+    ensures { IfOk result (λ store. store.ready ≡ true) }
+{
+    let mut facts = facts(alloc)?;
+    facts.buffer = buffer;
+    match CardStore::open(alloc, MemDisk::new(alloc), &facts) {
+        Ok(store) => Ok(store),
+        Err(_) => Err(Fail::from("the store opens")),
+    }
+}
+
+/// Whether the line of the longest script on a card with this buffer is this one, also when the store is opened again.
+fn leaves_line(alloc: Global, buffer: u32, want: CardLine) -> Result<bool, Fail> {
+    let mut store = opened_with(alloc, buffer)?;
+    let body = longest_script(alloc)?;
+    use_up(&mut store, 1, Counter(1), RFM, &body)?;
+    Ok(has_lines(&store, &[want]) && reopens(&mut store) && has_lines(&store, &[want]))
+}
+
+#[test]
+fn longest_script_is_run_where_the_buffer_holds_it(rt: HostRuntime) -> Result<(), Fail> {
+    let run = leaves_line(rt.alloc(), 4096, line(Counter(1), 586, true, 0x00))?;
+    assert!(rt; run);
+    let unrun = leaves_line(rt.alloc(), 4095, line(Counter(1), 0, true, 0x07))?;
+    assert!(rt; unrun);
     Ok(())
 }
