@@ -22,7 +22,7 @@ use Rattle.world_core.specs.declared.events.Event.TheVariants.{Begin, Seal}
 use Rattle.world_core.specs.declared.lines.Line.{Line}
 use Rattle.world_core.specs.declared.segments.Sent.{Sent}
 use Rattle.lane_engine.specs.Adding.{AddingAnswer, AnswerCause, IsAdded, IsAddition, IsAddingRun, LaneCause, is_settlement}
-use Rattle.lane_engine.specs.Departing.{AreFirst, AreHandedOver, HaveCardsGoneOn, IsResent, IsSending, IsSendingRun, IsUnasked, SendingEvents, SendsOnlyAdded, leaving, pieces_from, LeavesWhole}
+use Rattle.lane_engine.specs.Departing.{AreFirst, AreHandedOver, AreReserved, HaveCardsGoneOn, IsResent, IsSending, IsSendingRun, IsUnasked, SendingEvents, SendsOnlyAdded, leaving, pieces_from, LeavesWhole}
 use Rattle.lane_engine.specs.Kept.{KeptSince, IsFair}
 use Rattle.lane_engine.specs.Opening.{Opening}
 use Rattle.lane_engine.specs.LaneValue.{LaneValue, IsLane, IsSameHearing}
@@ -35,7 +35,7 @@ use Rattle.lane_engine.specs.declared.answers.LaneErr.TheVariants as lane_err
 use Rattle.lane_engine.proofs.AppendLemmas.{IsWithBatch}
 use Rattle.lane_engine.proofs.AddingLemmas.{may_begin, none_settles}
 use Rattle.lane_engine.proofs.KeptLemmas.{fair_before}
-use Rattle.lane_engine.proofs.LeavingLemmas.{AreReserved, from_reserved}
+use Rattle.lane_engine.proofs.LeavingLemmas.{from_reserved}
 use Rattle.lane_engine.proofs.SentLemmas.{hands_all, hands_first, hands_run, hands_run_all, hands_unasked}
 
 -- ---- one call behind another

@@ -16,15 +16,12 @@ use Rattle.world_core.specs.Packet.{Packet, packet_at, pieces_of}
 use Rattle.world_core.specs.Run.{Runs}
 use Rattle.world_core.specs.declared.lines.Line.{Line}
 use Rattle.world_core.specs.declared.segments.Sent.{Sent}
-use Rattle.lane_engine.specs.Departing.{leaving, pieces_at, pieces_from, pieces_if}
+use Rattle.lane_engine.specs.Departing.{AreReserved, leaving, pieces_at, pieces_from, pieces_if}
 use Rattle.lane_engine.specs.Packets.{departure_at, departures_of}
 use Rattle.lane_engine.specs.Sending.{IsCarried}
 use Rattle.lane_engine.specs.World.{world_of, AreSent}
 
 -- ---- each piece is of a reservation
-
-abbrev pub AreReserved : List Entry → List Sent → Type 0
-AreReserved history pieces = (piece : Sent) → In piece pieces → IsReserved history piece
 
 in_pieces : (position : ℕ) (packet : Packet) (from count : ℕ) (piece : Sent) → In piece (map (λ (place : ℕ). piece_of position place packet) (range_with_len from count))
     → (place : ℕ) × (from ≤ place) × (place < from + count) × (piece ≡ piece_of position place packet)

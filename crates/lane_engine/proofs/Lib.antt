@@ -19,6 +19,8 @@ pub mod UnderLemmas
 pub mod ResentLemmas
 pub mod RefusalLemmas
 pub mod CourseLemmas
+pub mod ActsLemmas
+pub mod LedLemmas
 pub mod SettledLemmas
 pub mod AskedLemmas
 pub mod HeardLemmas
@@ -26,5 +28,7 @@ pub mod PolledLemmas
 pub mod ResponseLemmas
 pub mod PollRunLemmas
 pub mod PollCallLemmas
+pub mod PollLedLemmas
 pub mod TakenLemmas
 pub mod KeepingLemmas
+pub mod BareLemmas

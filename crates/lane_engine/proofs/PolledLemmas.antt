@@ -149,7 +149,7 @@ module _ {D B C : Type 0} (told : Meaning D B C) (counts : D → Counts) (port :
   abbrev entries : List Entry
   entries = old.journal.entries
 
-  is_history : IsHistory opening.lane opening.lanes entries
+  pub is_history : IsHistory opening.lane opening.lanes entries
   is_history = subst (λ (n : ℕ). IsHistory opening.lane n entries) kept.lanes_are (subst (λ (n : ℕ). IsHistory n old.journal.lanes entries) kept.lane_is of.history)
 
   at_opening : (image : List ℕ) → Holds old.journal.lane old.journal.lanes entries image → Holds opening.lane opening.lanes entries image
@@ -158,10 +158,10 @@ module _ {D B C : Type 0} (told : Meaning D B C) (counts : D → Counts) (port :
   held_old : Tells told old.site → (image : List ℕ) → image_now told old.site image → Holds opening.lane opening.lanes entries image
   held_old tells image at = at_opening image (ready_holds told old.site old.journal (of.ready live tells) image at)
 
-  held_mid : Tells told old.site → (image : List ℕ) → image_now told mid.site image → Holds opening.lane opening.lanes entries image
+  pub held_mid : Tells told old.site → (image : List ℕ) → image_now told mid.site image → Holds opening.lane opening.lanes entries image
   held_mid tells image at = held_old tells image ((asked.run tells).images_stand (told.clock mid.site) image (asked.run tells).past.later (omega arith) at)
 
-  later_mid : Tells told old.site → opening.clock ≤ told.clock mid.site
+  pub later_mid : Tells told old.site → opening.clock ≤ told.clock mid.site
   later_mid tells = (let early = (kept.where_told tells).later in let on = (asked.run tells).past.later in omega (arith, early, on))
 
   asked_mid : (tells : Tells told old.site) → IsFair told counts port lines opening mid.site → KeptAsked told counts port lines opening mid.site entries

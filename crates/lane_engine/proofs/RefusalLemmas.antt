@@ -167,7 +167,7 @@ none_handed departures before now lane_err.NotReserved is = is
 pub none_asked : (before now : PortState) → now ≡ before → IsUnasked before now
 none_asked before now is = record { given = ap (λ (p : PortState). p.given) is; polls = ap (λ (p : PortState). p.polls) is }
 
-no_events : (batch : List Entry) (error : LaneErr) → IsNoFault error → (adding_events batch (Err error) ≡ []) × (batch_left batch (Err error) ≡ None)
+pub no_events : (batch : List Entry) (error : LaneErr) → IsNoFault error → (adding_events batch (Err error) ≡ []) × (batch_left batch (Err error) ≡ None)
 no_events [] error is =
     no_fault (λ e. (adding_events [] (Err e) ≡ []) × (batch_left [] (Err e) ≡ None)) (refl, refl) (refl, refl) (λ long need. (refl, refl)) (refl, refl) (refl, refl) (refl, refl) (λ counter. (refl, refl)) (refl, refl) error is
 no_events (entry ∷ batch) error is =

@@ -16,7 +16,7 @@ use Rattle.world_core.specs.Run.{Runs}
 use Rattle.world_core.specs.Sound.{CardsWentOn}
 use Rattle.world_core.specs.declared.lines.Line.{Line}
 use Rattle.world_core.specs.declared.segments.Sent.{Sent}
-use Rattle.lane_engine.specs.Departing.{AreFirst, HaveCardsGoneOn, IsSendingRun, IsUnasked, leaving}
+use Rattle.lane_engine.specs.Departing.{AreFirst, AreReserved, HaveCardsGoneOn, IsSendingRun, IsUnasked, leaving}
 use Rattle.lane_engine.specs.Kept.{KeptSince, KeptFair, IsFair, IsLater, added_since}
 use Rattle.lane_engine.specs.Opening.{Opening}
 use Rattle.lane_engine.specs.LaneValue.{LaneValue, IsLane, IsSameHearing}
@@ -27,7 +27,7 @@ use Rattle.lane_engine.specs.declared.answers.LaneErr.{LaneErr}
 use Rattle.lane_engine.proofs.AppendLemmas.{kept_calls}
 use Rattle.lane_engine.proofs.KeptLemmas.{SoundIn, fair_before}
 use Rattle.lane_engine.proofs.LeftLemmas.{left_still}
-use Rattle.lane_engine.proofs.LeavingLemmas.{AreReserved, first_reserved, leaves_run, sent_split}
+use Rattle.lane_engine.proofs.LeavingLemmas.{first_reserved, leaves_run, sent_split}
 use Rattle.lane_engine.proofs.PortLemmas.{SendsReserved, port_gone_on, port_ready, port_sound}
 
 module _ {D B C : Type 0} (told : Meaning D B C) (port : B → PortState) (lines : C → ℕ → List Line) (entries : List Entry) (old new : D)

@@ -11,6 +11,8 @@ use Rattle.site_model.specs.Runs.{SiteRun}
 use Rattle.site_model.specs.Cards.{port_now}
 use Rattle.site_model.specs.declared.departures.Departure.{Departure}
 use Rattle.world_core.specs.Effect.{piece_of}
+use Rattle.world_core.specs.Headline.{IsReserved}
+use Rattle.world_core.specs.Members.{In}
 use Rattle.world_core.specs.Packet.{Packet, packet_at, packet_of, pieces_of, place_at}
 use Rattle.world_core.specs.Run.{Runs}
 use Rattle.world_core.specs.Sound.{CardsWentOn}
@@ -40,6 +42,10 @@ leaving piece = Leave piece.reservation piece.place
 -- the pieces of so many reservations from a position of the history on, in order
 abbrev pub pieces_from : List Entry → (position count : ℕ) → List Sent
 pieces_from history position count = flat_map (pieces_at history) (range_with_len position count)
+
+-- each of the pieces is of a reservation for its card, and has a place of its packet
+abbrev pub AreReserved : List Entry → List Sent → Type 0
+AreReserved history pieces = (piece : Sent) → In piece pieces → IsReserved history piece
 
 -- nothing was asked of the port, and it gave nothing
 pub record IsUnasked (before now : PortState) : Type 0 where

@@ -1,5 +1,5 @@
 -- By which answer a lane may end.
-use Rattle.std.specs.Prelude.{◌≡◌, ◌⊎◌, ℕ, ◌+◌, ◌<◌, ◌≤◌, All, List, [], length}
+use Rattle.std.specs.Prelude.{◌≡◌, ◌⊎◌, false, ℕ, ◌+◌, ◌<◌, ◌≤◌, All, List, [], length}
 use Rattle.disk_model.specs.Counts.{Counts, HasRisen}
 use Rattle.gate_log.specs.Opening.{LIMIT}
 use Rattle.ota_core.specs.Keyset.{Keyset}
@@ -40,11 +40,11 @@ pub record IsNeedOfOpens (need : ℕ) : Type 0 where
   pub need_is : need ≡ need_for (opens_of by moment [] keysets)
 
 -- The answer of a call ends a lane: want of memory always; a fault of the site where its count rose since the opening; and
--- no room in the journal for the longest settlement, for reservations or for Opens.
+-- no room in the journal of a lane that isn't stale for the longest settlement, for reservations or for Opens.
 abbrev pub IsFounded : {D : Type 0} → (D → Counts) → Counts → LaneValue D → LaneErr → Type 0
 IsFounded counts before lane lane_err.Memory = Unit {0}
 IsFounded counts before lane (lane_err.SiteFault fault.Failed) = HasRisen before.faults (counts lane.site).faults
 IsFounded counts before lane (lane_err.SiteFault fault.Memory) = HasRisen before.wants (counts lane.site).wants
-IsFounded counts before lane (lane_err.Full length need) = (length ≡ lane.journal.length) × (LIMIT < length + need)
+IsFounded counts before lane (lane_err.Full length need) = (length ≡ lane.journal.length) × (lane.is_stale ≡ false) × (LIMIT < length + need)
     × ((need ≡ LONGEST_SETTLEMENT) ⊎ IsNeedOfReserves lane.journal.lane lane.journal.lanes need ⊎ IsNeedOfOpens need)
 IsFounded counts before lane refusal = ⊥

@@ -11,6 +11,8 @@ pub mod Departing
 pub mod Sending
 pub mod Polling
 pub mod Ends
+pub mod Course
+pub mod CourseLaws
 pub mod Kept
 pub mod Unsettled
 pub mod Keeping

@@ -6,6 +6,7 @@ ghost use Rattle.disk_model.specs.Disk.{Tells};
 ghost use Rattle.ota_core.specs.Entry.{is_open_of};
 ghost use Rattle.ota_core.specs.Questions.{state_of};
 ghost use Rattle.lane_engine.specs.Adding.{moment_for, AddingAnswer, IsAddition, IsAddingRun, LaneCause};
+ghost use Rattle.lane_engine.specs.Course.{AddingCourse};
 ghost use Rattle.lane_engine.specs.Kept.{KeptSince, IsLater};
 ghost use Rattle.lane_engine.specs.Opening.{Opening};
 ghost use Rattle.lane_engine.specs.Reserving.{KeysetsDiffer, opens_of, close_of, state_refusal};
@@ -29,6 +30,7 @@ impl<T: SiteCalls> Lane<T> {
         ensures answer { AddingAnswer self.old None (opens_of by (moment_for self.old) (reverse self.old.journal.entries) keysets.now) result }
         ensures added { IsAddition self.old self.new (opens_of by (moment_for self.old) (reverse self.old.journal.entries) keysets.now) result }
         ensures run { Tells T.told self.old.site → IsAddingRun T.told T.port T.lines self.old self.new (opens_of by (moment_for self.old) (reverse self.old.journal.entries) keysets.now) result }
+        ensures course { Tells T.told self.old.site → AddingCourse T.told T.port T.lines self.old self.new (opens_of by (moment_for self.old) (reverse self.old.journal.entries) keysets.now) result }
         ensures idle { opens_of by (moment_for self.old) (reverse self.old.journal.entries) keysets.now ≡ [] → self.new ≡ self.old }
         ensures cause { LaneCause (T.counts self.old.site) (T.counts self.new.site) result }
         ensures later { IsLater T.told T.counts T.port T.lines self.old self.new }
@@ -49,6 +51,7 @@ impl<T: SiteCalls> Lane<T> {
         ensures answer { AddingAnswer self.old (state_refusal (state_of keyset (reverse self.old.journal.entries))) (close_of by (moment_for self.old) keyset) result }
         ensures added { IsAddition self.old self.new (close_of by (moment_for self.old) keyset) result }
         ensures run { Tells T.told self.old.site → IsAddingRun T.told T.port T.lines self.old self.new (close_of by (moment_for self.old) keyset) result }
+        ensures course { Tells T.told self.old.site → AddingCourse T.told T.port T.lines self.old self.new (close_of by (moment_for self.old) keyset) result }
         ensures cause { LaneCause (T.counts self.old.site) (T.counts self.new.site) result }
         ensures later { IsLater T.told T.counts T.port T.lines self.old self.new }
         ensures kept { (opening : Opening) → KeptSince T.told T.counts T.port T.lines opening self.old → KeptSince T.told T.counts T.port T.lines opening self.new }

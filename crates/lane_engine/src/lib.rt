@@ -7,6 +7,7 @@ mod answers;
 mod keeping;
 mod keysets;
 mod lanes;
+mod laws;
 mod openings;
 mod polling;
 mod reserving;
@@ -17,4 +18,5 @@ mod workspaces;
 
 pub use answers::{LaneErr, Poll};
 pub use lanes::Lane;
+pub use laws::bare_cards_act;
 pub use openings::Opened;

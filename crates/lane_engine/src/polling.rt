@@ -12,6 +12,7 @@ ghost use Rattle.site_model.specs.Port.{IsPolling};
 ghost use Rattle.site_model.specs.Runs.{PortRun};
 ghost use Rattle.sms_segments.specs.declared.assembling.Push.TheVariants.{Whole as WholePacket};
 ghost use Rattle.lane_engine.specs.Adding.{LaneCause, need_for};
+ghost use Rattle.lane_engine.specs.Course.{CardsActSince, PollingCourse};
 ghost use Rattle.lane_engine.specs.Departing.{HaveCardsGoneOn};
 ghost use Rattle.lane_engine.specs.Kept.{KeptSince, IsFair, IsLater};
 ghost use Rattle.lane_engine.specs.Opening.{Opening};
@@ -52,6 +53,7 @@ impl<T: SiteCalls> Lane<T> {
         ensures lost { Tells T.told self.old.site → LosesDue self.old self.new by (port_now T.told T.port T.lines self.old.site) (port_now T.told T.port T.lines self.new.site) result }
         ensures nothing { CountsNothing (T.counts self.old.site) (T.counts self.new.site) result }
         ensures events { (opening : Opening) → Tells T.told self.old.site → KeptSince T.told T.counts T.port T.lines opening self.old → IsFair T.told T.counts T.port T.lines opening self.new.site → PollingEvents T.told T.port T.lines self.old self.new by result }
+        ensures course { (opening : Opening) → Tells T.told self.old.site → KeptSince T.told T.counts T.port T.lines opening self.old → IsFair T.told T.counts T.port T.lines opening self.new.site → CardsActSince T.told T.port T.lines self.old.journal.lane self.old.journal.lanes (T.told.clock self.old.site) self.new.site → PollingCourse T.told T.port T.lines self.old self.new by result }
         ensures went_on { (opening : Opening) → Tells T.told self.old.site → KeptSince T.told T.counts T.port T.lines opening self.old → IsFair T.told T.counts T.port T.lines opening self.new.site → HaveCardsGoneOn T.told T.port T.lines self.old self.new }
         ensures cause { LaneCause (T.counts self.old.site) (T.counts self.new.site) result }
         ensures later { IsLater T.told T.counts T.port T.lines self.old self.new }

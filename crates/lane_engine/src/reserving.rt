@@ -12,6 +12,7 @@ ghost use Rattle.ota_core.specs.declared.entries.Entry.{Entry};
 ghost use Rattle.ota_core.specs.declared.entries.Entry.TheVariants.{Reserve};
 ghost use Rattle.keyset_book.specs.Book.{StandsFor};
 ghost use Rattle.lane_engine.specs.Adding.{moment_for, AddingAnswer, IsAddition, IsAddingRun, IsNoFault, LaneCause};
+ghost use Rattle.lane_engine.specs.Course.{AddingCourse};
 ghost use Rattle.lane_engine.specs.Kept.{KeptSince, IsLater};
 ghost use Rattle.lane_engine.specs.Opening.{Opening};
 ghost use Rattle.lane_engine.specs.Reserving.{IsJobOf, JobsDiffer, is_refusal, jobs_refusal, next_behind, refusal_behind, reserves_of, state_refusal, taken_refusal};
@@ -39,6 +40,7 @@ impl<T: SiteCalls> Lane<T> {
         ensures answer { AddingAnswer self.old (jobs_refusal by (moment_for self.old) self.old.name (reverse self.old.journal.entries) jobs.now) (reserves_of by (moment_for self.old) self.old.name (reverse self.old.journal.entries) jobs.now) result }
         ensures added { IsAddition self.old self.new (reserves_of by (moment_for self.old) self.old.name (reverse self.old.journal.entries) jobs.now) result }
         ensures run { Tells T.told self.old.site → IsAddingRun T.told T.port T.lines self.old self.new (reserves_of by (moment_for self.old) self.old.name (reverse self.old.journal.entries) jobs.now) result }
+        ensures course { Tells T.told self.old.site → AddingCourse T.told T.port T.lines self.old self.new (reserves_of by (moment_for self.old) self.old.name (reverse self.old.journal.entries) jobs.now) result }
         ensures cause { LaneCause (T.counts self.old.site) (T.counts self.new.site) result }
         ensures later { IsLater T.told T.counts T.port T.lines self.old self.new }
         ensures kept { (opening : Opening) → KeptSince T.told T.counts T.port T.lines opening self.old → KeptSince T.told T.counts T.port T.lines opening self.new }

@@ -15,6 +15,7 @@ ghost use Rattle.site_model.specs.Pieces.{pieces_under};
 ghost use Rattle.world_core.specs.Packet.{packet_at, pieces_of, pieces_of_length};
 ghost use Rattle.world_core.specs.declared.events.Event.TheVariants.{Begin, Seal};
 ghost use Rattle.lane_engine.specs.Adding.{moment_for, AddingAnswer, LaneCause};
+ghost use Rattle.lane_engine.specs.Course.{CardsActSince, PiecesCourse, ResendingCourse, SendingCourse};
 ghost use Rattle.lane_engine.specs.Departing.{AreHandedOver, HaveCardsGoneOn, IsResent, IsSending, IsSendingRun, IsUnasked, LeavesWhole, ResendAnswer, SendsOnlyAdded, SendingEvents, ResendingEvents, departures_under, pieces_at, pieces_from};
 ghost use Rattle.lane_engine.specs.Kept.{KeptSince, IsFair, IsLater};
 ghost use Rattle.lane_engine.specs.Opening.{Opening};
@@ -52,6 +53,7 @@ impl<T: SiteCalls> Lane<T> {
         ensures unasked { Tells T.told self.old.site → IsUnasked (port_now T.told T.port T.lines self.old.site) (port_now T.told T.port T.lines self.new.site) }
         ensures moments { Tells T.told self.old.site → self.old.is_stale ≡ false → LeavesWhole T.told T.port T.lines self.old self.new (reserves_of by (moment_for self.old) self.old.name (reverse self.old.journal.entries) jobs.now) }
         ensures events { Tells T.told self.old.site → SendingEvents T.told T.port T.lines self.old self.new (reserves_of by (moment_for self.old) self.old.name (reverse self.old.journal.entries) jobs.now) result }
+        ensures course { Tells T.told self.old.site → CardsActSince T.told T.port T.lines self.old.journal.lane self.old.journal.lanes (T.told.clock self.old.site) self.new.site → SendingCourse T.told T.port T.lines self.old self.new (reserves_of by (moment_for self.old) self.old.name (reverse self.old.journal.entries) jobs.now) result }
         ensures went_on { (opening : Opening) → Tells T.told self.old.site → KeptSince T.told T.counts T.port T.lines opening self.old → IsFair T.told T.counts T.port T.lines opening self.new.site → HaveCardsGoneOn T.told T.port T.lines self.old self.new }
         ensures cause { LaneCause (T.counts self.old.site) (T.counts self.new.site) result }
         ensures later { IsLater T.told T.counts T.port T.lines self.old self.new }
@@ -74,6 +76,7 @@ impl<T: SiteCalls> Lane<T> {
         ensures sent { Tells T.told self.old.site → AreHandedOver (departures_under self.old.journal.entries (record { keyset = keyset; counter = counter })) (port_now T.told T.port T.lines self.old.site) (port_now T.told T.port T.lines self.new.site) result }
         ensures unasked { Tells T.told self.old.site → IsUnasked (port_now T.told T.port T.lines self.old.site) (port_now T.told T.port T.lines self.new.site) }
         ensures events { Tells T.told self.old.site → ResendingEvents T.told T.port T.lines self.old self.new (record { keyset = keyset; counter = counter }) result }
+        ensures course { Tells T.told self.old.site → CardsActSince T.told T.port T.lines self.old.journal.lane self.old.journal.lanes (T.told.clock self.old.site) self.new.site → ResendingCourse T.told T.port T.lines self.old self.new (record { keyset = keyset; counter = counter }) result }
         ensures went_on { (opening : Opening) → Tells T.told self.old.site → KeptSince T.told T.counts T.port T.lines opening self.old → IsFair T.told T.counts T.port T.lines opening self.new.site → HaveCardsGoneOn T.told T.port T.lines self.old self.new }
         ensures cause { LaneCause (T.counts self.old.site) (T.counts self.new.site) result }
         ensures later { IsLater T.told T.counts T.port T.lines self.old self.new }
@@ -98,6 +101,7 @@ impl<T: SiteCalls> Lane<T> {
         ensures answer { IsOkOrFault result }
         ensures resent { IsResent self.old self.new result }
         ensures hands { Tells T.told self.old.site → HandsOverBuilt T.told T.port T.lines self.old.journal.entries self.old.site self.new.site (departures_for self.old.journal.entries (drop first self.old.journal.entries)) (pieces_from self.old.journal.entries first (length self.old.journal.entries - first)) result }
+        ensures course { Tells T.told self.old.site → CardsActSince T.told T.port T.lines self.old.journal.lane self.old.journal.lanes (T.told.clock self.old.site) self.new.site → PiecesCourse T.told T.port T.lines self.old self.new (pieces_from self.old.journal.entries first (length self.old.journal.entries - first)) result }
         ensures went_on { (opening : Opening) → Tells T.told self.old.site → KeptSince T.told T.counts T.port T.lines opening self.old → IsFair T.told T.counts T.port T.lines opening self.new.site → HaveCardsGoneOn T.told T.port T.lines self.old self.new }
         ensures later { IsLater T.told T.counts T.port T.lines self.old self.new }
         ensures kept { (opening : Opening) → KeptSince T.told T.counts T.port T.lines opening self.old → KeptSince T.told T.counts T.port T.lines opening self.new }

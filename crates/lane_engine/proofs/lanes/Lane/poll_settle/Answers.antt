@@ -6,6 +6,7 @@ use Rattle.site_model.specs.Causes.{CountsEmpty, empty_polls}
 use Rattle.lane_engine.specs.LaneValue.{LaneValue, IsLane}
 use Rattle.lane_engine.specs.declared.answers.Poll.{Poll}
 use Rattle.lane_engine.proofs.PollCallLemmas.{asked_stopped, events_call, events_none, kept_call, later_heard, loses_heard, loses_none, nothing_heard, polled_heard, told_heard, told_none, went_on_call, unpolled_same, went_on_unpolled}
+use Rattle.lane_engine.proofs.PollLedLemmas.{fault_course, none_course, taken_course, unpolled_course}
 use Rattle.lane_engine.proofs.PolledLemmas.{asked_from, kept_fault, kept_none, kept_unpolled, went_on_asked}
 use Rattle.lane_engine.proofs.lanes.Lane.poll_settle.Goals as goal
 
@@ -114,3 +115,38 @@ pub returns-in-Some-clause-lost : goal.returns-in-Some-clause-lost
 returns-in-Some-clause-lost g c = λ tells.
     loses_heard g.T.DiskCalls.told g.T.DiskCalls.counts g.T.SiteCalls.port g.T.SiteCalls.lines c.args.self.now c.ask.new.self (sym (ap (λ (v : LaneValue g.row.T.Denot). v.is_stale) c.self.view_is) ∙ c.if-self.false) (asked_from g.T.DiskCalls.told g.T.DiskCalls.counts g.T.SiteCalls.port g.T.SiteCalls.lines c.args.self.now c.make_room.new.self c.ask.new.self c.make_room.ensures.same c.ask.ensures.asked c.ask.ensures.tells c.ask.ensures.cause.faults c.ask.ensures.cause.wants (λ tells. c.ask.ensures.run tells) (λ tells. c.ask.ensures.keeps tells)) c.hear.new.self c.args.by (c.in-Some.card, c.as_slice.result.now) c.hear.result c.hear.ensures.heard tells
     ((subst (λ d. Tells g.T.DiskCalls.told d → (port_now g.T.DiskCalls.told g.T.SiteCalls.port g.T.SiteCalls.lines c.ask.new.self.site).given ≡ (port_now g.T.DiskCalls.told g.T.SiteCalls.port g.T.SiteCalls.lines d).given ++ (c.in-Some.card, c.as_slice.result.now) ∷ []) c.make_room.ensures.same.site (λ tells. subst (λ l. (port_now g.T.DiskCalls.told g.T.SiteCalls.port g.T.SiteCalls.lines c.ask.new.self.site).given ≡ (port_now g.T.DiskCalls.told g.T.SiteCalls.port g.T.SiteCalls.lines c.make_room.new.self.site).given ++ (c.in-Some.card, l) ∷ []) (sym c.as_slice.ensures.value) (subst (λ o. IfSome o (λ m. (port_now g.T.DiskCalls.told g.T.SiteCalls.port g.T.SiteCalls.lines c.ask.new.self.site).given ≡ (port_now g.T.DiskCalls.told g.T.SiteCalls.port g.T.SiteCalls.lines c.make_room.new.self.site).given ++ (m.0, m.1.items) ∷ [])) c.in-Some.is (c.in_ok-ask.ensures.given tells)))) tells)
+
+pub returns-then-self-clause-course : goal.returns-then-self-clause-course
+returns-then-self-clause-course g c = λ opening tells kept fair acts past keeps.
+    unpolled_course g.T.DiskCalls.told g.T.SiteCalls.port g.T.SiteCalls.lines c.args.self.now c.args.self.now (unpolled_same c.args.self.now)
+
+pub returns-in_err-room-clause-course : goal.returns-in_err-room-clause-course
+returns-in_err-room-clause-course g c = λ opening tells kept fair acts past keeps.
+    let p = err_from_is_err_and c.from_residual.result c.from_residual.ensures.1 in
+    rw (p.1, p.2) (unpolled_course g.T.DiskCalls.told g.T.SiteCalls.port g.T.SiteCalls.lines c.args.self.now c.make_room.new.self c.make_room.ensures.same)
+
+pub returns-in_err-has_room-clause-course : goal.returns-in_err-has_room-clause-course
+returns-in_err-has_room-clause-course g c = λ opening tells kept fair acts past keeps.
+    let p = err_from_is_err_and c.from_residual-in_err-has_room.result c.from_residual-in_err-has_room.ensures.1 in
+    rw (p.1, p.2, c.in_err-has_room.ensures.0) (unpolled_course g.T.DiskCalls.told g.T.SiteCalls.port g.T.SiteCalls.lines c.args.self.now c.make_room.new.self c.make_room.ensures.same)
+
+pub returns-in_err-ask-clause-course : goal.returns-in_err-ask-clause-course
+returns-in_err-ask-clause-course g c = λ opening tells kept fair acts past keeps.
+    let p = err_from_is_err_and c.from_residual-in_err-ask.result c.from_residual-in_err-ask.ensures.1 in
+    rw (p.1, p.2)
+    (fault_course g.T.DiskCalls.told g.T.DiskCalls.counts g.T.SiteCalls.port g.T.SiteCalls.lines c.args.self.now c.ask.new.self (subst (λ (v : LaneValue g.row.T.Denot). IsLane g.T.DiskCalls.told v) c.self.view_is c.self.invariant) (sym (ap (λ (v : LaneValue g.row.T.Denot). v.is_stale) c.self.view_is) ∙ c.if-self.false) (λ d tells. g.met.T.DiskCalls.seen_is_image d tells)
+    (asked_from g.T.DiskCalls.told g.T.DiskCalls.counts g.T.SiteCalls.port g.T.SiteCalls.lines c.args.self.now c.make_room.new.self c.ask.new.self c.make_room.ensures.same c.ask.ensures.asked c.ask.ensures.tells c.ask.ensures.cause.faults c.ask.ensures.cause.wants (λ tells. c.ask.ensures.run tells) (λ tells. c.ask.ensures.keeps tells)) tells acts Poll opening kept fair c.args.by c.in_err-ask.field-0.0 c.in_err-ask.ensures.answer past keeps)
+
+pub returns-in-None-clause-course : goal.returns-in-None-clause-course
+returns-in-None-clause-course g c = λ opening tells kept fair acts past keeps.
+    none_course g.T.DiskCalls.told g.T.DiskCalls.counts g.T.SiteCalls.port g.T.SiteCalls.lines c.args.self.now c.ask.new.self (subst (λ (v : LaneValue g.row.T.Denot). IsLane g.T.DiskCalls.told v) c.self.view_is c.self.invariant) (sym (ap (λ (v : LaneValue g.row.T.Denot). v.is_stale) c.self.view_is) ∙ c.if-self.false) (λ d tells. g.met.T.DiskCalls.seen_is_image d tells)
+    (asked_from g.T.DiskCalls.told g.T.DiskCalls.counts g.T.SiteCalls.port g.T.SiteCalls.lines c.args.self.now c.make_room.new.self c.ask.new.self c.make_room.ensures.same c.ask.ensures.asked c.ask.ensures.tells c.ask.ensures.cause.faults c.ask.ensures.cause.wants (λ tells. c.ask.ensures.run tells) (λ tells. c.ask.ensures.keeps tells)) tells acts c.args.by past
+    ((subst (λ d. Tells g.T.DiskCalls.told d → (port_now g.T.DiskCalls.told g.T.SiteCalls.port g.T.SiteCalls.lines c.ask.new.self.site).given ≡ (port_now g.T.DiskCalls.told g.T.SiteCalls.port g.T.SiteCalls.lines d).given) c.make_room.ensures.same.site (λ tells. subst (λ m. IfNone m ((port_now g.T.DiskCalls.told g.T.SiteCalls.port g.T.SiteCalls.lines c.ask.new.self.site).given ≡ (port_now g.T.DiskCalls.told g.T.SiteCalls.port g.T.SiteCalls.lines c.make_room.new.self.site).given)) c.in-None.is (c.in_ok-ask.ensures.none tells))) tells)
+
+pub returns-in-Some-clause-course : goal.returns-in-Some-clause-course
+returns-in-Some-clause-course g c = λ opening tells kept fair acts past keeps.
+    taken_course g.T.DiskCalls.told g.T.DiskCalls.counts g.T.SiteCalls.port g.T.SiteCalls.lines opening c.args.self.now c.ask.new.self (subst (λ (v : LaneValue g.row.T.Denot). IsLane g.T.DiskCalls.told v) c.self.view_is c.self.invariant) (sym (ap (λ (v : LaneValue g.row.T.Denot). v.is_stale) c.self.view_is) ∙ c.if-self.false) (λ d tells. g.met.T.DiskCalls.seen_is_image d tells)
+    (asked_from g.T.DiskCalls.told g.T.DiskCalls.counts g.T.SiteCalls.port g.T.SiteCalls.lines c.args.self.now c.make_room.new.self c.ask.new.self c.make_room.ensures.same c.ask.ensures.asked c.ask.ensures.tells c.ask.ensures.cause.faults c.ask.ensures.cause.wants (λ tells. c.ask.ensures.run tells) (λ tells. c.ask.ensures.keeps tells)) kept c.hear.new.self c.args.by (c.in-Some.card, c.as_slice.result.now) c.hear.result c.in_ok-ask.ensures.answer c.hear.ensures.heard
+    (subst (λ d. Tells g.T.DiskCalls.told d → (port_now g.T.DiskCalls.told g.T.SiteCalls.port g.T.SiteCalls.lines c.ask.new.self.site).given ≡ (port_now g.T.DiskCalls.told g.T.SiteCalls.port g.T.SiteCalls.lines d).given ++ (c.in-Some.card, c.as_slice.result.now) ∷ []) c.make_room.ensures.same.site (λ tells. subst (λ l. (port_now g.T.DiskCalls.told g.T.SiteCalls.port g.T.SiteCalls.lines c.ask.new.self.site).given ≡ (port_now g.T.DiskCalls.told g.T.SiteCalls.port g.T.SiteCalls.lines c.make_room.new.self.site).given ++ (c.in-Some.card, l) ∷ []) (sym c.as_slice.ensures.value) (subst (λ o. IfSome o (λ m. (port_now g.T.DiskCalls.told g.T.SiteCalls.port g.T.SiteCalls.lines c.ask.new.self.site).given ≡ (port_now g.T.DiskCalls.told g.T.SiteCalls.port g.T.SiteCalls.lines c.make_room.new.self.site).given ++ (m.0, m.1.items) ∷ [])) c.in-Some.is (c.in_ok-ask.ensures.given tells))))
+    c.hear.ensures.tells c.hear.ensures.cause tells
+    (g.met.T.SiteCalls.has_choice c.ask.new.self.site (subst (λ b. IsTrue b) (sym ((asked_from g.T.DiskCalls.told g.T.DiskCalls.counts g.T.SiteCalls.port g.T.SiteCalls.lines c.args.self.now c.make_room.new.self c.ask.new.self c.make_room.ensures.same c.ask.ensures.asked c.ask.ensures.tells c.ask.ensures.cause.faults c.ask.ensures.cause.wants (λ tells. c.ask.ensures.run tells) (λ tells. c.ask.ensures.keeps tells)).tells)) tells) (g.T.DiskCalls.told.clock c.ask.new.self.site) (omega arith)) fair acts past keeps

@@ -9,7 +9,10 @@ use Rattle.ota_core.specs.declared.entries.Entry.{Entry}
 use Rattle.counter_journal.specs.EntryRanges.{IsSized, IsOfLane}
 use Rattle.site_model.specs.Port.{PortState}
 use Rattle.site_model.specs.Cards.{port_now}
+use Rattle.lane_engine.specs.Course.{PiecesCourse}
 use Rattle.lane_engine.specs.Departing.{pieces_from}
+use Rattle.lane_engine.specs.declared.answers.LaneErr.TheVariants as lane_err
+use Rattle.lane_engine.proofs.LedLemmas.{added_course, failed_course, none_sending_course, sending_course}
 use Rattle.lane_engine.specs.Sending.{HandsOverBuilt}
 use Rattle.lane_engine.specs.Adding.{AddingAnswer, IsAdded, IsAddition, IsAddingRun, moment_for, is_settlement}
 use Rattle.lane_engine.specs.LaneValue.{LaneValue, IsLane}
@@ -18,7 +21,7 @@ use Rattle.lane_engine.specs.Reserving.{jobs_refusal, reserves_of}
 use Rattle.lane_engine.proofs.RefusalLemmas.{none_asked, none_cause, none_handed, none_sending, none_sending_events}
 use Rattle.lane_engine.proofs.ReservingLemmas.{reserves_legal, reserves_length, reserves_of_lane, reserves_settle_none, reserves_sized}
 use Rattle.lane_engine.specs.KeepingLaws.{is_later_chain}
-use Rattle.lane_engine.proofs.CourseLemmas.{added_whole, adding_gone_on, cause_then, course_added, course_answer, course_events, course_gone_on, course_only_added, course_sent, course_whole, course_unasked, failed_events, failed_sending, idle_whole, refused_gone_on}
+use Rattle.lane_engine.proofs.CourseLemmas.{added_whole, adding_gone_on, cause_then, journal_of, course_added, course_answer, course_events, course_gone_on, course_only_added, course_sent, course_whole, course_unasked, failed_events, failed_sending, idle_whole, refused_gone_on}
 use Rattle.lane_engine.proofs.lanes.Lane.reserve_and_send.Goals as goal
 
 pub returns-then-self-clause-went_on : goal.returns-then-self-clause-went_on
@@ -282,3 +285,37 @@ returns-clause-moments g c = λ tells live.
     (subst (λ (n : ℕ). Tells g.T.DiskCalls.told c.append.new.self.site → HandsOverBuilt g.T.DiskCalls.told g.T.SiteCalls.port g.T.SiteCalls.lines c.append.new.self.journal.entries c.append.new.self.site c.send_from.new.self.site (departures_for c.append.new.self.journal.entries (drop n c.append.new.self.journal.entries)) (pieces_from c.append.new.self.journal.entries n (length c.append.new.self.journal.entries - n)) c.send_from.result)
     (ap (λ (l : List Entry). length l) (c.entries-first.ensures.entries ∙ c.history.ensures.entries ∙ ap (λ (v : LaneValue g.row.T.Denot). v.journal.entries) c.self.view_is)) c.send_from.ensures.hands)
     tells
+
+pub returns-then-self-clause-course : goal.returns-then-self-clause-course
+returns-then-self-clause-course g c = λ tells acts.
+    none_sending_course g.T.DiskCalls.told g.T.SiteCalls.port g.T.SiteCalls.lines c.args.self.now (reserves_of c.args.by (moment_for c.args.self.now) c.args.self.now.name (reverse c.args.self.now.journal.entries) c.args.jobs.now) lane_err.Stale tt
+
+pub returns-in_err-batch-clause-course : goal.returns-in_err-batch-clause-course
+returns-in_err-batch-clause-course g c = λ tells acts.
+    let p = err_from_is_err_and c.from_residual.result c.from_residual.ensures.1 in
+    rw (p.1, p.2) (none_sending_course g.T.DiskCalls.told g.T.SiteCalls.port g.T.SiteCalls.lines c.args.self.now (reserves_of c.args.by (moment_for c.args.self.now) c.args.self.now.name (reverse c.args.self.now.journal.entries) c.args.jobs.now) c.in_err-batch.field-0.0 c.in_err-batch.ensures.refused.0)
+
+pub returns-in_err-append-clause-course : goal.returns-in_err-append-clause-course
+returns-in_err-append-clause-course g c = λ tells acts.
+    let p = err_from_is_err_and c.from_residual-in_err-append.result c.from_residual-in_err-append.ensures.1 in
+    let added : IsAddition c.args.self.now c.append.new.self (reserves_of c.args.by (moment_for c.args.self.now) c.args.self.now.name (reverse c.args.self.now.journal.entries) c.args.jobs.now) (Err c.in_err-append.field-0.0) =
+    subst (λ (b : List Entry). IsAddition c.args.self.now c.append.new.self b (Err c.in_err-append.field-0.0)) c.in_ok-batch.ensures.batch c.in_err-append.ensures.added in
+    rw (p.1, p.2)
+    (failed_course g.T.DiskCalls.told g.T.SiteCalls.port g.T.SiteCalls.lines c.args.self.now c.append.new.self (reserves_of c.args.by (moment_for c.args.self.now) c.args.self.now.name (reverse c.args.self.now.journal.entries) c.args.jobs.now) c.in_err-append.field-0.0 added
+    (added_course g.T.DiskCalls.told g.T.SiteCalls.port g.T.SiteCalls.lines c.args.self.now c.append.new.self (reserves_of c.args.by (moment_for c.args.self.now) c.args.self.now.name (reverse c.args.self.now.journal.entries) c.args.jobs.now) (Err c.in_err-append.field-0.0)
+    (let long = reserves_length c.args.by (moment_for c.args.self.now) c.args.self.now.name (reverse c.args.self.now.journal.entries) c.args.jobs.now in let some = c.requires.some in omega (arith, long, some))
+    (subst (λ (v : LaneValue g.row.T.Denot). IsLane g.T.DiskCalls.told v) c.self.view_is c.self.invariant) (subst (λ (v : LaneValue g.row.T.Denot). v.is_stale ≡ false) c.self.view_is c.if-self.false) (reserves_settle_none c.args.by (moment_for c.args.self.now) c.args.self.now.name (reverse c.args.self.now.journal.entries) c.args.jobs.now) added
+    (subst (λ (b : List Entry). IsAddingRun g.T.DiskCalls.told g.T.SiteCalls.port g.T.SiteCalls.lines c.args.self.now c.append.new.self b (Err c.in_err-append.field-0.0)) c.in_ok-batch.ensures.batch (c.in_err-append.ensures.run tells))))
+
+pub returns-clause-course : goal.returns-clause-course
+returns-clause-course g c = λ tells acts.
+    sending_course g.T.DiskCalls.told g.T.SiteCalls.port g.T.SiteCalls.lines c.args.self.now c.append.new.self c.send_from.new.self (reserves_of c.args.by (moment_for c.args.self.now) c.args.self.now.name (reverse c.args.self.now.journal.entries) c.args.jobs.now) c.send_from.result
+    (reserves_legal c.args.by (moment_for c.args.self.now) c.args.self.now.name (reverse c.args.self.now.journal.entries) c.args.jobs.now c.in_ok-batch.ensures.free (le-max_right c.args.self.now.moment (last_moment (reverse c.args.self.now.journal.entries))))
+    (reserves_settle_none c.args.by (moment_for c.args.self.now) c.args.self.now.name (reverse c.args.self.now.journal.entries) c.args.jobs.now) (subst (λ (v : LaneValue g.row.T.Denot). v.is_stale ≡ false) c.self.view_is c.if-self.false) ((subst (λ (v : LaneValue g.row.T.Denot). IsLane g.T.DiskCalls.told v) c.self.view_is c.self.invariant).whole (subst (λ (v : LaneValue g.row.T.Denot). v.is_stale ≡ false) c.self.view_is c.if-self.false))
+    (subst (λ (b : List Entry). IsAdded c.args.self.now c.append.new.self b) c.in_ok-batch.ensures.batch c.in_ok-append.ensures.added)
+    (subst (λ (b : List Entry). IsAddingRun g.T.DiskCalls.told g.T.SiteCalls.port g.T.SiteCalls.lines c.args.self.now c.append.new.self b (Ok tt)) c.in_ok-batch.ensures.batch (c.in_ok-append.ensures.run tells))
+    (journal_of c.append.new.self c.send_from.new.self c.send_from.result c.send_from.ensures.answer c.send_from.ensures.resent)
+    c.send_from.ensures.answer
+    (λ acts_mid. subst (λ (n : ℕ). PiecesCourse g.T.DiskCalls.told g.T.SiteCalls.port g.T.SiteCalls.lines c.append.new.self c.send_from.new.self (pieces_from c.append.new.self.journal.entries n (length c.append.new.self.journal.entries - n)) c.send_from.result)
+    (ap (λ (l : List Entry). length l) (c.entries-first.ensures.entries ∙ c.history.ensures.entries ∙ ap (λ (v : LaneValue g.row.T.Denot). v.journal.entries) c.self.view_is))
+    (c.send_from.ensures.course (subst (λ b. IsTrue b) (sym c.append.ensures.later.tells) tells) acts_mid)) acts

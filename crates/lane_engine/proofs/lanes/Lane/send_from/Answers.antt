@@ -10,6 +10,7 @@ use Rattle.lane_engine.specs.Sending.{HandsOverBuilt}
 use Rattle.lane_engine.proofs.CourseLemmas.{hearing_of, journal_of, lost_of, same_then}
 use Rattle.lane_engine.proofs.FromLemmas.{built_all, built_more, built_none, built_stopped}
 use Rattle.lane_engine.proofs.LeavingLemmas.{from_reserved}
+use Rattle.lane_engine.proofs.LedLemmas.{pieces_course}
 use Rattle.lane_engine.proofs.SentLemmas.{sent_gone_on, sent_kept, sent_later}
 use Rattle.lane_engine.proofs.RefusalLemmas.{same_lane}
 use Rattle.lane_engine.proofs.lanes.Lane.send_from.Goals as goal
@@ -131,3 +132,27 @@ returns-clause-kept g c = λ opening kept.
     (let two = c.loop-position.invariant.3.wants in omega (arith, two))
     (λ told_so. built_all g.T.DiskCalls.told g.T.DiskCalls.counts g.T.SiteCalls.port g.T.SiteCalls.lines c.args.self.now.journal.entries c.args.self.now.site c.args.first c.loop-position.self.site c.loop-position.position c.loop-position.invariant.3 past told_so)
     (from_reserved c.args.self.now.journal.entries c.args.first (length c.args.self.now.journal.entries - c.args.first)) opening kept
+
+pub returns-in_err-send_at-clause-course : goal.returns-in_err-send_at-clause-course
+returns-in_err-send_at-clause-course g c = λ tells acts.
+    let p = err_from_is_err_and c.from_residual.result c.from_residual.ensures.1 in
+    let below : c.loop-position.position < length c.args.self.now.journal.entries =
+    subst (λ (n : ℕ). c.loop-position.position < n) (ap (λ (l : List Entry). length l) (c.entries-count.ensures.entries ∙ c.history.ensures.entries ∙ ap (λ (v : LaneValue g.row.T.Denot). v.journal.entries) c.self.view_is)) c.loop-position-test.true in
+    rw (p.1, p.2)
+    (pieces_course g.T.DiskCalls.told g.T.SiteCalls.port g.T.SiteCalls.lines c.args.self.now c.send_at.new.self (departures_for c.args.self.now.journal.entries (drop c.args.first c.args.self.now.journal.entries)) (pieces_from c.args.self.now.journal.entries c.args.first (length c.args.self.now.journal.entries - c.args.first)) (Err c.in_err-send_at.field-0.0)
+    (subst (λ (v : LaneValue g.row.T.Denot). IsLane g.T.DiskCalls.told v) c.self.view_is c.self.invariant) c.requires.live (λ told_so. g.met.T.DiskCalls.seen_is_image c.args.self.now.site told_so)
+    (journal_of c.loop-position.self c.send_at.new.self (Err c.in_err-send_at.field-0.0) c.in_err-send_at.ensures.answer c.in_err-send_at.ensures.resent ∙ c.loop-position.invariant.0)
+    (lost_of c.loop-position.self c.send_at.new.self (Err c.in_err-send_at.field-0.0) c.in_err-send_at.ensures.answer c.in_err-send_at.ensures.resent ∙ c.loop-position.invariant.4)
+    (λ told_so.
+    built_stopped g.T.DiskCalls.told g.T.DiskCalls.counts g.T.SiteCalls.port g.T.SiteCalls.lines c.args.self.now.journal.entries c.args.self.now.site c.args.first c.loop-position.self.site c.send_at.new.self.site c.loop-position.position c.loop-position.invariant.3 below c.in_err-send_at.field-0.0
+    (λ then. subst (λ (j : JournalValue). HandsOverBuilt g.T.DiskCalls.told g.T.SiteCalls.port g.T.SiteCalls.lines j.entries c.loop-position.self.site c.send_at.new.self.site
+    (departures_if (packet_at j.entries c.loop-position.position)) (pieces_at j.entries c.loop-position.position) (Err c.in_err-send_at.field-0.0)) c.loop-position.invariant.0 (c.in_err-send_at.ensures.hands then)) told_so)
+    (from_reserved c.args.self.now.journal.entries c.args.first (length c.args.self.now.journal.entries - c.args.first)) tells acts c.in_err-send_at.ensures.answer)
+
+pub returns-clause-course : goal.returns-clause-course
+returns-clause-course g c = λ tells acts.
+    let past : length c.args.self.now.journal.entries ≤ c.loop-position.position = subst (λ (n : ℕ). n ≤ c.loop-position.position) (ap (λ (l : List Entry). length l) (c.entries-count.ensures.entries ∙ c.history.ensures.entries ∙ ap (λ (v : LaneValue g.row.T.Denot). v.journal.entries) c.self.view_is)) c.loop-position-test.false in
+    pieces_course g.T.DiskCalls.told g.T.SiteCalls.port g.T.SiteCalls.lines c.args.self.now c.loop-position.self (departures_for c.args.self.now.journal.entries (drop c.args.first c.args.self.now.journal.entries)) (pieces_from c.args.self.now.journal.entries c.args.first (length c.args.self.now.journal.entries - c.args.first)) (Ok tt)
+    (subst (λ (v : LaneValue g.row.T.Denot). IsLane g.T.DiskCalls.told v) c.self.view_is c.self.invariant) c.requires.live (λ told_so. g.met.T.DiskCalls.seen_is_image c.args.self.now.site told_so) c.loop-position.invariant.0 c.loop-position.invariant.4
+    (λ told_so. built_all g.T.DiskCalls.told g.T.DiskCalls.counts g.T.SiteCalls.port g.T.SiteCalls.lines c.args.self.now.journal.entries c.args.self.now.site c.args.first c.loop-position.self.site c.loop-position.position c.loop-position.invariant.3 past told_so)
+    (from_reserved c.args.self.now.journal.entries c.args.first (length c.args.self.now.journal.entries - c.args.first)) tells acts tt
