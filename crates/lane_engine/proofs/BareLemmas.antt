@@ -1,12 +1,12 @@
 -- What the cards of a site without cards do: nothing.
-use Rattle.std.proofs.Common.{◌≡◌, ℕ, not, List, [], ◌∷◌, map, filter, refl, ap}
+use Rattle.std.proofs.Common.{ℕ, List, [], ◌∷◌, map, refl, ap}
 use Rattle.disk_model.specs.Disk.{Meaning}
 use Rattle.site_model.specs.BareTold.{site_told}
 use Rattle.site_model.specs.Cards.{port_at}
 use Rattle.site_model.specs.declared.bare_site.BareSite.{BareSite}
 use Rattle.world_core.specs.declared.events.Event.{Event}
 use Rattle.world_core.specs.declared.segments.Sent.{Sent}
-use Rattle.lane_engine.specs.Course.{CardsActSince, OnlyLeave, is_of_cards}
+use Rattle.lane_engine.specs.Course.{CardsActSince, OnlyLeave}
 use Rattle.lane_engine.specs.Departing.{leaving}
 use Rattle.lane_engine.proofs.LeavingLemmas.{leaves_run}
 

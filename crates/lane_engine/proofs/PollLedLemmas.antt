@@ -1,6 +1,5 @@
 -- A poll as a list of events.
-use Rattle.std.proofs.Common.{◌≡◌, ◌⊎◌, inl, inr, ℕ, ◌≤◌, IsTrue, true, false, None, Some, Option, Result, Ok, Err, List, [], ◌∷◌, ◌++◌, length, map, refl, sym, ◌∙◌, ap, subst, arith, append-nil, append_assoc}
-use Rattle.std.proofs.lemmas.List.{append_cancel_left}
+use Rattle.std.proofs.Common.{◌≡◌, inl, inr, ℕ, ◌≤◌, IsTrue, false, None, Some, Option, Result, Ok, Err, List, [], ◌∷◌, ◌++◌, length, map, refl, sym, ◌∙◌, ap, subst, arith, append-nil, append_assoc}
 use Rattle.disk_model.specs.Counts.{Counts}
 use Rattle.disk_model.specs.Disk.{Meaning, Tells, PastStands, image_now}
 use Rattle.ota_core.specs.declared.cards.CardId.{CardId}
@@ -26,13 +25,13 @@ use Rattle.world_core.specs.declared.events.Event.TheVariants.{Begin}
 use Rattle.world_core.specs.declared.lines.Line.{Line}
 use Rattle.world_core.specs.declared.segments.Sent.{Sent}
 use Rattle.lane_engine.specs.Adding.{LaneCause, moment_for}
-use Rattle.lane_engine.specs.Course.{ActsThen, CardsActSince, GivenCourse, GivesNone, GivesOne, IsCourse, IsIdle, LeavingCourse, OnlyLeave, PolledCourse, batch_lost, whole_world}
+use Rattle.lane_engine.specs.Course.{ActsThen, CardsActSince, GivenCourse, GivesOne, IsCourse, IsIdle, LeavingCourse, PolledCourse, batch_lost, whole_world}
 use Rattle.lane_engine.specs.CourseLaws.{acts_before}
 use Rattle.lane_engine.specs.Kept.{KeptSince, IsFair, AreGiven}
 use Rattle.lane_engine.specs.Opening.{Opening}
 use Rattle.lane_engine.specs.LaneValue.{LaneValue, IsLane}
 use Rattle.lane_engine.specs.Polling.{AreGivenBy, IsPollingRun, IsStoppedRun, IsUnpolled, giving, settlements, settling_events}
-use Rattle.lane_engine.specs.Receipts.{RESPONSE, Response, answer_to_push, due_in, message_of, past_of, response_by, response_in}
+use Rattle.lane_engine.specs.Receipts.{RESPONSE, Response, answer_to_push, due_in, message_of, past_of, response_in}
 use Rattle.lane_engine.specs.Settling.{AskingAnswer, IsHeard, settled_by}
 use Rattle.lane_engine.specs.Unforged.{made_as}
 use Rattle.lane_engine.specs.World.{world_of, AreSent}
@@ -44,7 +43,7 @@ use Rattle.lane_engine.proofs.ActsLemmas.{HandedBy, PortLed, port_led}
 use Rattle.lane_engine.proofs.AddingLemmas.{sent_more}
 use Rattle.lane_engine.proofs.HeardLemmas.{made_given}
 use Rattle.lane_engine.proofs.LedLemmas.{World, idle_with}
-use Rattle.lane_engine.proofs.PollCallLemmas.{entries_ok, heard_cases, later_heard, not_nothing, port_new}
+use Rattle.lane_engine.proofs.PollCallLemmas.{entries_ok, heard_cases, not_nothing, port_new}
 use Rattle.lane_engine.proofs.PolledLemmas.{AskedFrom, events_heard, events_stopped, held_mid, is_history, keeps_as, later_mid, settled_as}
 use Rattle.lane_engine.proofs.PollRunLemmas.{said_by}
 use Rattle.lane_engine.proofs.SettledLemmas.{first_made, may_give}

@@ -1,11 +1,9 @@
 -- Laws of sites whose cards act by events of the pure machine.
 use Rattle.std.proofs.Common.{◌≡◌, ℕ, suc, ◌≤◌, List, ◌++◌, arith, subst, sym, ap}
 use Rattle.disk_model.specs.Disk.{Meaning, PastStands}
-use Rattle.ota_core.specs.declared.entries.Entry.{Entry}
 use Rattle.site_model.specs.Port.{PortState}
 use Rattle.site_model.specs.Cards.{port_at}
 use Rattle.world_core.specs.declared.lines.Line.{Line}
-use Rattle.world_core.specs.declared.segments.Sent.{Sent}
 use Rattle.lane_engine.specs.Course.{CardsAct, CardsActSince}
 use Rattle.lane_engine.specs.World.{AreSent}
 
