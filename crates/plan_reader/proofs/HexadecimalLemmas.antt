@@ -3,8 +3,9 @@ use Rattle.std.specs.Prelude.{MatchResult}
 use Rattle.std.specs.List.{list_all}
 use Rattle.std.specs.Result.{result_ok}
 use Rattle.std.proofs.lemmas.Bool.{cases_Bool, cases_eq, eqb-false, ne_eqb}
+use Rattle.std.proofs.lemmas.Bool.Decides.{nat_tests}
 use Rattle.std.proofs.lemmas.List.Sums.{list_all-from_AllPass}
-use Rattle.hex.specs.Hex.{decode_sized, is_hex_digit}
+use Rattle.hex.specs.Hex.{decode_of, decode_sized, is_hex_digit}
 use Rattle.hex.proofs.HexLemmas.{decode_of-even, decode_of-ok}
 use Rattle.hex.proofs.Pairs.{decode_sized-pairs}
 use Rattle.plan_reader.specs.Hexadecimal.{octets_of, AreDigitsOf}
@@ -23,6 +24,13 @@ octets_of-spelled octets digits are =
     let ok = decode_of-ok digits octets are in
     let half : length digits / 2 ≡ length octets = omega (arith, ok.2) in
     rw (decode_sized-pairs digits (length octets) ok.0 half, ← decode_of-even digits ok.0, are) refl
+
+-- digits are read into half as many octets as they are
+pub octets_of-half : (digits : List ℕ) → octets_of (length digits / 2) digits ≡ result_ok (decode_of digits)
+unfolding octets_of
+octets_of-half digits =
+    let same : (length digits / 2 == length digits / 2) ≡ true = grind (arith, nat_tests) in
+    elim (cases_Bool (length digits % 2 == 1)) [ inl odd ↦ rw odd refl | inr even ↦ rw (even, same) refl ]
 
 -- a result whose value is there
 result_ok-some : {A E : Type 0} (result : Result A E) (value : A) → result_ok result ≡ Some value → result ≡ Ok value

@@ -1,5 +1,6 @@
 -- What is read of the rows of a list of jobs.
-use Rattle.std.proofs.Common.{◌≡◌, ◌∙◌, refl, sym, ℕ, ◌+◌, ◌/◌, nat_lt, nat_le, ◌≤◌, ◌<◌, ◌==◌, ◌&&◌, ◌||◌, IsTrue, not, Bool, true, false, List, [], ◌∷◌, ◌++◌, length, map, Option, Some, None, unwrap_or, arith, inl, inr}
+use Rattle.std.proofs.Common.{◌≡◌, ◌∙◌, refl, sym, ℕ, ◌+◌, ◌/◌, nat_lt, nat_le, nat_eq, ◌≤◌, ◌<◌, ◌==◌, ◌&&◌, ◌||◌, IsTrue, not, Bool, true, false, List, [], ◌∷◌, ◌++◌, length, map, Option, Some, None, Result, Ok, Err, Vec, Global, IfOk, IfErr, unwrap_or, arith, inl, inr}
+use Rattle.std.specs.HashSet.{HashSet, contains}
 use Rattle.std.proofs.lemmas.Bool.{cases_Bool, eqb-true, false≢true}
 use Rattle.std.proofs.lemmas.Bool.Decides.{nat_tests}
 use Rattle.std.proofs.lemmas.List.Folds.{list_any-append}
@@ -9,6 +10,7 @@ use Rattle.plan_reader.specs.Check.{first_wrong, is_wrong, says, outcome}
 use Rattle.plan_reader.specs.Hexadecimal.{octets_of}
 use Rattle.plan_reader.specs.JobRows.{Row, cell, is_header, card_in, is_listed, job_number_of, card_number_of, kvn_in, script_in, longest_script, takes_wide, job_said, has_job_number, row_checks, first_of_rows, jobs_of_records, NamesRow, RefusesJobs, AreListed}
 use Rattle.plan_reader.specs.Jobs.{has_job, are_distinct}
+use Rattle.plan_reader.specs.PlanPlaces.{HasNumbers}
 use Rattle.plan_reader.specs.RowsLeft.{Takes}
 use Rattle.plan_reader.specs.declared.columns.Column.{Column}
 use Rattle.plan_reader.specs.declared.job_lists.JobsErr.{JobsErr}
@@ -31,6 +33,33 @@ script-length row wide refused =
         → true ≡ is_wrong (λ octets. nat_lt (longest_script wide) (length octets)) read
     long None is above = refl
     long (Some octets) is above = let (_, len) = octets_of-reads _ octets _ is in rw len (grind (arith, nat_tests, above))
+
+-- a script of a length that a card takes is right
+pub script-fits : (row : Row) (wide : Bool) (octets : List ℕ) → (nat_lt 0 (length (cell 4 row) / 2) && nat_le (length (cell 4 row) / 2) (longest_script wide)) ≡ true
+    → octets_of (length (cell 4 row) / 2) (cell 4 row) ≡ Some octets → false ≡ is_wrong (λ octets. nat_lt (longest_script wide) (length octets)) (script_in row)
+unfolding script_in
+script-fits row wide octets fits is =
+    let (filled, within) = both-hold (nat_lt 0 (length (cell 4 row) / 2)) (nat_le (length (cell 4 row) / 2) (longest_script wide)) fits in
+    let (_, len) = octets_of-reads _ octets _ is in
+    rw (filled, is, len) (grind (arith, nat_tests, within))
+  where
+    both-hold : (first second : Bool) → (first && second) ≡ true → (first ≡ true) × (second ≡ true)
+    both-hold true second holds = (refl, holds)
+    both-hold false second holds = cc holds
+
+-- the numbers of one job more
+pub numbers-more : {S : Type 0} (old new : HashSet ℕ S) (jobs : List Job) (job : Job) (number : ℕ) → HasNumbers old jobs → job.id.job ≡ number
+    → ((other : ℕ) → contains nat_eq new other ≡ ((number == other) || contains nat_eq old other)) → HasNumbers new (jobs ++ job ∷ [])
+numbers-more old new jobs job number has own added = record {
+  found = λ other.
+      added other ∙ rw (list_any-append (λ job. job.id.job == other) jobs (job ∷ []), own, has.found other) (or-last (number == other) (has_job_number other jobs));
+}
+  where
+    or-last : (first rest : Bool) → (first || rest) ≡ (rest || (first || false))
+    or-last true true = refl
+    or-last true false = refl
+    or-last false true = refl
+    or-last false false = refl
 
 -- a record that is taken is the first one
 pub taken-first : (rows : List Row) (found : Bool) (row : Row) (rest : List Row) → found ≡ true → Takes rows found row rest → rows ≡ row ∷ rest
@@ -197,7 +226,29 @@ pub behind-header : (plan : Plan) (row : Row) (rows : List Row) → is_header ro
 behind-header plan row rows header = rw header refl
 
 -- what is refused of the rows is refused of the list
-pub names-refuses : (plan : Plan) (rows : List Row) (err : JobsErr) → NamesRow (first_of_rows plan [] rows) err
+names-refuses : (plan : Plan) (rows : List Row) (err : JobsErr) → NamesRow (first_of_rows plan [] rows) err
     → RefusesJobs (outcome (map (job_said plan) rows) (first_of_rows plan [] rows)) err
 names-refuses plan rows (Refused row column) names = rw names refl
 names-refuses plan rows Memory names = tt
+
+-- the answer to rows is the answer to the list
+pub rows-ok : (plan : Plan) (rows : List Row) (result : Result (Vec Job Global) JobsErr) → IfOk result (λ _. first_of_rows plan [] rows ≡ None)
+    → IfOk result (λ jobs. jobs.items ≡ map (job_said plan) rows)
+    → IfOk result (λ jobs. outcome (map (job_said plan) rows) (first_of_rows plan [] rows) ≡ Ok jobs.items)
+rows-ok plan rows (Ok jobs) right said = rw (right, said) refl
+rows-ok plan rows (Err err) right said = tt
+
+pub rows-distinct : (plan : Plan) (rows : List Row) (result : Result (Vec Job Global) JobsErr) → IfOk result (λ _. first_of_rows plan [] rows ≡ None)
+    → IfOk result (λ jobs. jobs.items ≡ map (job_said plan) rows) → IfOk result (λ jobs. IsTrue (are_distinct jobs.items))
+rows-distinct plan rows (Ok jobs) right said = rw said (jobs-distinct plan [] rows right)
+rows-distinct plan rows (Err err) right said = tt
+
+pub rows-listed : (plan : Plan) (rows : List Row) (result : Result (Vec Job Global) JobsErr) → IfOk result (λ _. first_of_rows plan [] rows ≡ None)
+    → IfOk result (λ jobs. jobs.items ≡ map (job_said plan) rows) → IfOk result (λ jobs. AreListed plan jobs.items)
+rows-listed plan rows (Ok jobs) right said = rw said (jobs-listed plan [] rows right)
+rows-listed plan rows (Err err) right said = tt
+
+pub rows-refused : (plan : Plan) (rows : List Row) (result : Result (Vec Job Global) JobsErr) → IfErr result (NamesRow (first_of_rows plan [] rows))
+    → IfErr result (RefusesJobs (outcome (map (job_said plan) rows) (first_of_rows plan [] rows)))
+rows-refused plan rows (Ok jobs) names = tt
+rows-refused plan rows (Err err) names = names-refuses plan rows err names

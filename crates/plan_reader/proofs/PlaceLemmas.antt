@@ -1,17 +1,15 @@
 -- The tables of cards and keysets say of their lists what they hold.
-use Rattle.std.proofs.Common.{◌≡◌, ◌∙◌, refl, sym, ap, cond, ℕ, zero, suc, ◌+◌, ◌<◌, ◌≤◌, ◌==◌, ◌&&◌, ◌||◌, not, Bool, true, false, IsTrue, List, [], ◌∷◌, ◌++◌, length, map, get_or, set, Option, Some, None, is_some, arith, add-zero, zero-add, add_assoc, bytes_eq, Vec, Global, Ordering, Less, Equal, Greater, inl, inr}
-use Rattle.std.specs.BTreeMap.{BTreeMap, get, Updates}
-use Rattle.std.specs.BTreeSet as tree
-use Rattle.std.specs.BTreeSet.{BTreeSet}
+use Rattle.std.proofs.Common.{◌≡◌, ◌∙◌, refl, sym, ap, cond, ℕ, nat_eq, zero, suc, ◌+◌, ◌<◌, ◌≤◌, ◌==◌, ◌&&◌, ◌||◌, not, Bool, true, false, IsTrue, List, [], ◌∷◌, ◌++◌, length, map, get_or, set, Option, Some, None, is_some, arith, add-zero, zero-add, add_assoc, bytes_eq, Vec, Global, inl, inr}
+use Rattle.std.specs.HashMap.{HashMap, get, Updates}
+use Rattle.std.specs.HashSet as bag
+use Rattle.std.specs.HashSet.{HashSet}
 use Rattle.std.specs.List.{list_any, position_from}
-use Rattle.std.specs.Ordering.{nat_cmp, is_eq, ordering_then}
-use Rattle.std.specs.Cmp.Lexicographic.{slice_cmp}
 use Rattle.std.proofs.lemmas.Bool.{cases_Bool, false≢true, eqb-true}
 use Rattle.std.proofs.lemmas.Slice.Eq.{bytes_eq-Decides}
 use Rattle.std.proofs.lemmas.Option.{same_Some}
 use Rattle.std.proofs.lemmas.Bool.Decides.{nat_tests}
 use Rattle.std.proofs.lemmas.List.Folds.{list_any-append, list_any_at}
-use Rattle.std.proofs.lemmas.Map.Text.{is_eq-slice_cmp}
+use Rattle.std.proofs.lemmas.List.Sorted.{list_any-IsPermutation}
 use Rattle.ota_core.specs.Keyset.{Keyset, is_same_keyset}
 use Rattle.ota_core.specs.KeysetList.{has_kvn}
 use Rattle.ota_core.specs.declared.cards.CardFacts.{CardFacts}
@@ -19,7 +17,7 @@ use Rattle.ota_core.specs.declared.keysets.KeysetFacts.{KeysetFacts}
 use Rattle.plan_reader.specs.Plan.{is_keyset_of}
 use Rattle.plan_reader.specs.PlanTable.{has_number, lists_keyset, has_kid}
 use Rattle.plan_reader.specs.CardPlaces.{place_of, have_own_numbers, IsPlaced, with_more}
-use Rattle.plan_reader.specs.KeysetPlaces.{keyset_cmp, have_own_ids, IsListed}
+use Rattle.plan_reader.specs.KeysetPlaces.{same_pair, have_own_ids, IsListed}
 use Rattle.plan_reader.specs.declared.keyset_table.Listing.{Listing}
 
 pub both_hold : (first second : Bool) → IsTrue (first && second) → IsTrue first × IsTrue second
@@ -96,17 +94,13 @@ none-passes p xs i d none within =
       | inr fails ↦ fails
     ]
 
--- the order of numbers says whether they are equal
-pub is_eq-nat_cmp : (m n : ℕ) → is_eq (nat_cmp m n) ≡ (m == n)
-is_eq-nat_cmp m n = grind (arith, nat_tests)
-
 -- what is found of a number where one more place is known
-found_by : (k number len : ℕ) (old new place : Option ℕ) (any : Bool) → new ≡ cond (is_eq (nat_cmp k number)) (Some len) old → old ≡ place → is_some place ≡ any
+found_by : (k number len : ℕ) (old new place : Option ℕ) (any : Bool) → new ≡ cond (nat_eq k number) (Some len) old → old ≡ place → is_some place ≡ any
     → (k ≡ number → any ≡ false) → new ≡ cond any place (cond (k == number) (Some len) None)
 found_by k number len old new place any updated same there apart =
     elim (cases_Bool (k == number)) [
-      | inl equal ↦ rw (updated, is_eq-nat_cmp k number, equal, apart (eqb-true k number equal)) refl
-      | inr other ↦ rw (updated, is_eq-nat_cmp k number, other, same, ← there) (kept place)
+      | inl equal ↦ rw (updated, equal, apart (eqb-true k number equal)) refl
+      | inr other ↦ rw (updated, other, same, ← there) (kept place)
     ]
   where
     kept : (place : Option ℕ) → place ≡ cond (is_some place) place None
@@ -127,12 +121,12 @@ own_push (first ∷ cards) card own none =
     rw (list_any-append (λ other. other.card.0 == first.card.0) cards (card ∷ []), not-true _ here, other, own_push cards card more rest) refl
 
 -- a card's number is found anew in a longer list
-pub placed-push : (places new : BTreeMap ℕ ℕ) (cards : List CardFacts) (card : CardFacts) → IsPlaced places cards → has_number card.card.0 cards ≡ false
-    → Updates nat_cmp places new card.card.0 (Some (length cards)) → IsPlaced new (cards ++ card ∷ [])
+pub placed-push : {S : Type 0} (places new : HashMap ℕ ℕ S) (cards : List CardFacts) (card : CardFacts) → IsPlaced places cards → has_number card.card.0 cards ≡ false
+    → Updates nat_eq places new card.card.0 (Some (length cards)) → IsPlaced new (cards ++ card ∷ [])
 placed-push places new cards card is none updates = record {
   found = λ number.
       let test : CardFacts → Bool = λ other. other.card.0 == number in
-      found_by card.card.0 number (length cards) (get nat_cmp places number) (get nat_cmp new number) (place_of number cards) (has_number number cards)
+      found_by card.card.0 number (length cards) (get nat_eq places number) (get nat_eq new number) (place_of number cards) (has_number number cards)
       (updates.0 number) (is.found number) (position-any test 0 cards) (same_number card.card.0 number cards none)
       ∙ sym (position-push test 0 cards card ∙ rw (zero-add (length cards)) refl);
   distinct = own_push cards card is.distinct none;
@@ -189,32 +183,32 @@ own-more : (keyset : Keyset) (facts : KeysetFacts) (cards : List CardFacts) → 
 own-more keyset facts [] = refl
 own-more keyset facts (card ∷ cards) = rw (number-more keyset facts card, has-more keyset facts card.card.0 cards, own-more keyset facts cards) refl
 
-pub placed-more : (places : BTreeMap ℕ ℕ) (cards : List CardFacts) (keyset : Keyset) (facts : KeysetFacts) → IsPlaced places cards → IsPlaced places (map (with_more keyset facts) cards)
+pub placed-more : {S : Type 0} (places : HashMap ℕ ℕ S) (cards : List CardFacts) (keyset : Keyset) (facts : KeysetFacts) → IsPlaced places cards → IsPlaced places (map (with_more keyset facts) cards)
 placed-more places cards keyset facts is = record {
   found = λ number. is.found number ∙ sym (place-more keyset facts number 0 cards);
   distinct = rw (own-more keyset facts cards) is.distinct;
 }
 
 -- the place of a card that is found, and the card there
-pub found-at : (places : BTreeMap ℕ ℕ) (cards : List CardFacts) (number place : ℕ) (d : CardFacts) → IsPlaced places cards → get nat_cmp places number ≡ Some place
+pub found-at : {S : Type 0} (places : HashMap ℕ ℕ S) (cards : List CardFacts) (number place : ℕ) (d : CardFacts) → IsPlaced places cards → get nat_eq places number ≡ Some place
     → (place < length cards) × ((get_or cards place d).card.0 == number ≡ true)
 found-at places cards number place d is found = position-at (λ card. card.card.0 == number) 0 place d cards (sym (is.found number) ∙ found ∙ ap Some (sym (zero-add place)))
 
-pub found-within : (places : BTreeMap ℕ ℕ) (cards : List CardFacts) (number place : ℕ) → IsPlaced places cards → get nat_cmp places number ≡ Some place → place < length cards
+pub found-within : {S : Type 0} (places : HashMap ℕ ℕ S) (cards : List CardFacts) (number place : ℕ) → IsPlaced places cards → get nat_eq places number ≡ Some place → place < length cards
 found-within places [] number place is found = let none = sym (is.found number) ∙ found in cc none
 found-within places (card ∷ cards) number place is found = (found-at places (card ∷ cards) number place card is found).0
 
 -- a card that is found hasn't a keyset that no card has
-pub kvn-new : (places : BTreeMap ℕ ℕ) (cards : List CardFacts) (keyset : Keyset) (place : ℕ) (card : CardFacts) → IsPlaced places cards
-    → get nat_cmp places keyset.card.0 ≡ Some place → card ≡ get_or cards place card → list_any (is_keyset_of keyset) cards ≡ false → has_kvn keyset.kvn card.keysets ≡ false
+pub kvn-new : {S : Type 0} (places : HashMap ℕ ℕ S) (cards : List CardFacts) (keyset : Keyset) (place : ℕ) (card : CardFacts) → IsPlaced places cards
+    → get nat_eq places keyset.card.0 ≡ Some place → card ≡ get_or cards place card → list_any (is_keyset_of keyset) cards ≡ false → has_kvn keyset.kvn card.keysets ≡ false
 kvn-new places cards keyset place card is found there none =
     let (within, own) = found-at places cards keyset.card.0 place card is found in
     let not_here = none-passes (is_keyset_of keyset) cards place card none within in
     rw there (rw own at not_here)
 
 -- a keyset is added to the card that is found
-pub more-found : (places : BTreeMap ℕ ℕ) (cards : List CardFacts) (keyset : Keyset) (facts : KeysetFacts) (place : ℕ) (card : CardFacts) → IsPlaced places cards
-    → get nat_cmp places keyset.card.0 ≡ Some place → card ≡ get_or cards place card
+pub more-found : {S : Type 0} (places : HashMap ℕ ℕ S) (cards : List CardFacts) (keyset : Keyset) (facts : KeysetFacts) (place : ℕ) (card : CardFacts) → IsPlaced places cards
+    → get nat_eq places keyset.card.0 ≡ Some place → card ≡ get_or cards place card
     → set cards place (record card { keysets = card.keysets ++ (keyset.kvn, facts) ∷ [] }) ≡ map (with_more keyset facts) cards
 more-found places cards keyset facts place card is found there =
     let (within, own) = found-at places cards keyset.card.0 place card is found in
@@ -222,8 +216,8 @@ more-found places cards keyset facts place card is found there =
     rw (← given) (more-at keyset facts 0 place card cards is.distinct (sym (is.found keyset.card.0) ∙ found ∙ ap Some (sym (zero-add place))))
 
 -- no card changes where the keyset's card isn't found
-pub more-missing : (places : BTreeMap ℕ ℕ) (cards : List CardFacts) (keyset : Keyset) (facts : KeysetFacts) → IsPlaced places cards
-    → get nat_cmp places keyset.card.0 ≡ None → cards ≡ map (with_more keyset facts) cards
+pub more-missing : {S : Type 0} (places : HashMap ℕ ℕ S) (cards : List CardFacts) (keyset : Keyset) (facts : KeysetFacts) → IsPlaced places cards
+    → get nat_eq places keyset.card.0 ≡ None → cards ≡ map (with_more keyset facts) cards
 more-missing places cards keyset facts is missing =
     sym (more-none keyset facts cards (sym (position-any (λ card. card.card.0 == keyset.card.0) 0 cards) ∙ ap is_some (sym (is.found keyset.card.0) ∙ missing)))
 
@@ -236,18 +230,6 @@ own_ids_push (first ∷ listings) listing own none =
     let other : is_same_keyset listing.id first.id ≡ false = is_same_keyset-comm listing.id first.id ∙ apart in
     rw (list_any-append (λ other. is_same_keyset other.id first.id) listings (listing ∷ []), not-true _ here, other, own_ids_push listings listing more rest) refl
 
--- a test of keys after one more is in
-any-insert : {K : Type 0} (cmp : K → K → Ordering) (test : K → Bool) (key : K) → ((other : K) → cmp key other ≡ Equal → test key ≡ test other)
-    → (keys : List K) → list_any test (tree.insert_key cmp keys key) ≡ (test key || list_any test keys)
-any-insert cmp test key same [] = refl
-any-insert cmp test key same (first ∷ keys) = by (cmp key first) refl (any-insert cmp test key same keys)
-  where
-    by : (order : Ordering) → cmp key first ≡ order → list_any test (tree.insert_key cmp keys key) ≡ (test key || list_any test keys)
-        → list_any test (tree.insert_key cmp (first ∷ keys) key) ≡ (test key || (test first || list_any test keys))
-    by Less is more = rw is refl
-    by Equal is more = rw (is, same first is) (twice (test first) (list_any test keys))
-    by Greater is more = rw (is, more) (swapped (test first) (test key) (list_any test keys))
-
 -- octets that pass the test of equality are equal
 same_bytes : (first second : List ℕ) → bytes_eq first second ≡ true → first ≡ second
 same_bytes first second equal = (bytes_eq-Decides first second).0 equal
@@ -257,16 +239,6 @@ bytes_eq-comm [] [] = refl
 bytes_eq-comm [] (octet ∷ second) = refl
 bytes_eq-comm (octet ∷ first) [] = refl
 bytes_eq-comm (octet ∷ first) (other ∷ second) = let swap : (octet == other) ≡ (other == octet) = grind (arith, nat_tests) in rw (swap, bytes_eq-comm first second) refl
-
--- the order of keysets says whether they are the same
-is_eq-then : (first second : Ordering) → is_eq (ordering_then first second) ≡ (is_eq first && is_eq second)
-is_eq-then Less second = refl
-is_eq-then Equal second = refl
-is_eq-then Greater second = refl
-
-is_eq-keyset_cmp : (first second : Keyset) → is_eq (keyset_cmp first second) ≡ is_same_keyset first second
-is_eq-keyset_cmp first second =
-    rw (is_eq-then (nat_cmp first.card.0 second.card.0) (nat_cmp first.kvn second.kvn), is_eq-nat_cmp first.card.0 second.card.0, is_eq-nat_cmp first.kvn second.kvn) refl
 
 -- one more test in front of others or behind them
 or-last : (first rest : Bool) → (first || rest) ≡ (rest || (first || false))
@@ -279,27 +251,42 @@ cond-or : (first rest : Bool) → cond first true rest ≡ (first || rest)
 cond-or true rest = refl
 cond-or false rest = refl
 
--- the order of keys by their octets
-abbrev pub kid_cmp : Vec ℕ Global → Vec ℕ Global → Ordering
-kid_cmp first second = slice_cmp nat_cmp first.items second.items
+-- two keys have the same octets
+abbrev pub same_key : Vec ℕ Global → Vec ℕ Global → Bool
+same_key first second = bytes_eq first.items second.items
 
--- a key's octets equal to another's pass and fail the same
-same_octets : (wanted : List ℕ) (first second : Vec ℕ Global) → kid_cmp first second ≡ Equal
-    → is_eq (slice_cmp nat_cmp wanted first.items) ≡ is_eq (slice_cmp nat_cmp wanted second.items)
-same_octets wanted first second equal =
-    let same : first.items ≡ second.items = same_bytes first.items second.items (sym (is_eq-slice_cmp first.items second.items) ∙ ap is_eq equal) in
-    rw same refl
-
-pub listed-push : (ids new_ids : BTreeSet Keyset) (kids new_kids : BTreeSet (Vec ℕ Global)) (listings : List Listing) (listing : Listing) (kid : Vec ℕ Global)
+pub listed-push : {S : Type 0} (ids new_ids : HashSet (ℕ × ℕ) S) (kids new_kids : HashSet (Vec ℕ Global) S) (listings : List Listing) (listing : Listing) (kid : Vec ℕ Global)
+    (added : Bool)
     → IsListed ids kids listings → lists_keyset listing.id listings ≡ false → kid.items ≡ listing.facts.kid
-    → tree.Updates keyset_cmp ids new_ids listing.id true → new_kids.keys ≡ tree.insert_key kid_cmp kids.keys kid
+    → ((pair : ℕ × ℕ) → bag.contains same_pair new_ids pair ≡ cond (same_pair (listing.id.card.0, listing.id.kvn) pair) true (bag.contains same_pair ids pair))
+    → added ≡ not (bag.contains same_key kids kid) → bag.PutsKey kids new_kids kid added
     → IsListed new_ids new_kids (listings ++ listing ∷ [])
-listed-push ids new_ids kids new_kids listings listing kid is none said updates keys = record {
+listed-push ids new_ids kids new_kids listings listing kid added is none said updates new puts = record {
   found = λ id.
-      updates.0 id ∙ rw (is_eq-keyset_cmp listing.id id, is.found id, list_any-append (λ other. is_same_keyset other.id id) listings (listing ∷ []))
+      updates (id.card.0, id.kvn) ∙ rw (is.found id, list_any-append (λ other. is_same_keyset other.id id) listings (listing ∷ []))
       (cond-or (is_same_keyset listing.id id) (lists_keyset id listings) ∙ or-last (is_same_keyset listing.id id) (lists_keyset id listings));
   found_kid = λ wanted.
-      rw (keys, any-insert kid_cmp (λ key. is_eq (slice_cmp nat_cmp wanted key.items)) kid (same_octets wanted kid) kids.keys, is.found_kid wanted, said, is_eq-slice_cmp wanted listing.facts.kid, list_any-append (λ other. bytes_eq other.facts.kid wanted) listings (listing ∷ []), bytes_eq-comm wanted listing.facts.kid)
+      kids_of added wanted new puts
+      ∙ rw (said, list_any-append (λ other. bytes_eq other.facts.kid wanted) listings (listing ∷ []), bytes_eq-comm wanted listing.facts.kid)
       (or-last (bytes_eq listing.facts.kid wanted) (has_kid wanted listings));
   distinct = own_ids_push listings listing is.distinct none;
 }
+  where
+    has_key : List ℕ → Vec ℕ Global → Bool
+    has_key wanted key = bytes_eq wanted key.items
+
+    again : (wanted : List ℕ) → bag.contains same_key kids kid ≡ true → has_kid wanted listings ≡ (bytes_eq wanted kid.items || has_kid wanted listings)
+    again wanted there =
+        elim (cases_Bool (bytes_eq wanted kid.items)) [
+          | inl same ↦ rw (same, same_bytes wanted kid.items same, ← is.found_kid kid.items, there) refl
+          | inr other ↦ rw other refl
+        ]
+
+    not-false : (test : Bool) → false ≡ not test → test ≡ true
+    not-false true is = refl
+    not-false false is = cc is
+
+    kids_of : (added : Bool) (wanted : List ℕ) → added ≡ not (bag.contains same_key kids kid) → bag.PutsKey kids new_kids kid added
+        → bag.contains_by (has_key wanted) new_kids ≡ (bytes_eq wanted kid.items || has_kid wanted listings)
+    kids_of true wanted new puts = rw (← list_any-IsPermutation (has_key wanted) (kid ∷ kids.keys) new_kids.keys puts, is.found_kid wanted) refl
+    kids_of false wanted new puts = rw (puts, is.found_kid wanted) (again wanted (not-false _ new))

@@ -1,8 +1,7 @@
 -- Where the cards of a list stand.
-use Rattle.std.specs.Prelude.{◌≡◌, ℕ, ◌==◌, ◌&&◌, not, Bool, true, if◌then◌else◌, IsTrue, Option, List, [], ◌∷◌, ◌++◌}
+use Rattle.std.specs.Prelude.{◌≡◌, ℕ, nat_eq, ◌==◌, ◌&&◌, not, Bool, true, if◌then◌else◌, IsTrue, Option, List, [], ◌∷◌, ◌++◌}
 use Rattle.std.specs.List.{position_from}
-use Rattle.std.specs.BTreeMap.{BTreeMap, get}
-use Rattle.std.specs.Ordering.{nat_cmp}
+use Rattle.std.specs.HashMap.{HashMap, get}
 use Rattle.ota_core.specs.Keyset.{Keyset}
 use Rattle.ota_core.specs.declared.cards.CardFacts.{CardFacts}
 use Rattle.ota_core.specs.declared.keysets.KeysetFacts.{KeysetFacts}
@@ -18,8 +17,8 @@ have_own_numbers [] = true
 have_own_numbers (card ∷ cards) = not (has_number card.card.0 cards) && have_own_numbers cards
 
 -- the map has the place of each card, and no two cards have one number
-pub record IsPlaced (places : BTreeMap ℕ ℕ) (cards : List CardFacts) : Type 0 where
-  pub found : (number : ℕ) → get nat_cmp places number ≡ place_of number cards
+pub record IsPlaced {S : Type 0} (places : HashMap ℕ ℕ S) (cards : List CardFacts) : Type 0 where
+  pub found : (number : ℕ) → get nat_eq places number ≡ place_of number cards
   pub distinct : IsTrue (have_own_numbers cards)
 
 -- a card with this keyset behind its own, where the keyset is the card's

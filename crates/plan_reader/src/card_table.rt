@@ -9,7 +9,7 @@ ghost use Rattle.plan_reader.specs.CardPlaces.{have_own_numbers, with_more};
 use crate::plans::CardList;
 use ota_core::{CardFacts, KeysetFacts, KeysetId, Memory};
 use std::alloc::Global;
-use std::collections::BTreeMap;
+use std::collections::HashMap;
 use std::marker::Model;
 
 /// Cards in order, no two with one number. Contracts see the list of them.
@@ -17,7 +17,7 @@ use std::marker::Model;
 pub(crate) struct CardTable {
     cards: Vec<CardFacts>,
     /// The place of each card in the list, by its number.
-    places: BTreeMap<u64, usize>,
+    places: HashMap<u64, usize>,
 }
 
 impl Model for CardTable {
@@ -38,7 +38,7 @@ impl CardTable {
     {
         CardTable {
             cards: Vec::new(alloc),
-            places: BTreeMap::new(alloc),
+            places: HashMap::new(alloc),
         }
     }
 

@@ -4,13 +4,16 @@ ghost use Rattle.plan_reader.specs.Jobs.{are_distinct};
 ghost use Rattle.plan_reader.specs.JobRows.{cell, is_header, jobs_of, RefusesJobs, AreListed};
 
 use crate::columns::Column;
-use crate::job_rows::read_rows;
+use crate::job_rows::{MOST_JOBS, read_rows};
 use crate::plan_index::PlanIndex;
 use crate::plans::Plan;
 use crate::records::{cell, next_record, open_records};
 use csv::ByteRecord;
 use ota_core::{Job, Memory};
-use std::alloc::{AllocFailed, Global};
+use std::alloc::{AllocError, AllocFailed, Global};
+
+/// The least number of octets in a row, with the end of its line.
+const SHORTEST_ROW: usize = 16;
 
 /// Why the octets of a list of jobs give none.
 #[derive(Clone, Copy, Debug, PartialEq, Eq)]
@@ -28,6 +31,17 @@ impl From<Memory> for JobsErr {
     ghost from_gives = { λ _ err. err ≡ jobs_err.Memory };
 
     fn from(_memory: Memory) -> JobsErr {
+        JobsErr::Memory
+    }
+}
+
+impl From<AllocError> for JobsErr {
+    ghost use Rattle.std.specs.Prelude.{◌≡◌};
+    ghost use Rattle.plan_reader.specs.declared.job_lists.JobsErr.TheVariants as jobs_err;
+
+    ghost from_gives = { λ _ err. err ≡ jobs_err.Memory };
+
+    fn from(_error: AllocError) -> JobsErr {
         JobsErr::Memory
     }
 }
@@ -62,8 +76,8 @@ pub fn read_jobs(alloc: Global, octets: &[u8], plan: &Plan) -> Result<Vec<Job>, 
     if !is_header(&row) {
         return Err(JobsErr::Refused(0, Column::Header));
     }
-    let jobs = read_rows(alloc, &mut reader, &mut row, &index)?;
-    Ok(jobs.into_jobs())
+    let room = (octets.len() / SHORTEST_ROW).min(MOST_JOBS);
+    read_rows(alloc, &mut reader, &mut row, &index, room)
 }
 
 /// Whether a record is the header.

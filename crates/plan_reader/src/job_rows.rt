@@ -1,27 +1,31 @@
 //! The rows of a list of jobs.
 
-ghost use Rattle.std.specs.Prelude.{◌≡◌, ◌<◌, ◌≤◌, ◌&&◌, not, nat_lt, nat_le, Some, None, [], map, length, is_none, IfOk, IfErr, IfSome};
+ghost use Rattle.std.specs.Prelude.{◌≡◌, ◌==◌, ◌<◌, ◌≤◌, ◌&&◌, ◌||◌, not, nat_lt, nat_le, nat_eq, ℕ, Some, None, [], ◌∷◌, ◌++◌, map, length, is_none, IfOk, IfErr, IfSome};
+ghost use Rattle.std.specs.HashSet.{contains};
 ghost use Rattle.csv.specs.Records.{fields_of};
 ghost use Rattle.plan_reader.specs.Check.{first_wrong, is_wrong};
 ghost use Rattle.plan_reader.specs.JobRows.{cell, card_in, is_listed, job_number_of, card_number_of, kvn_in, tar_of, script_in, longest_script, takes_wide, has_job_number, job_said, row_checks, first_of_rows, NamesRow};
+ghost use Rattle.plan_reader.specs.PlanPlaces.{HasNumbers, IsListing};
 ghost use Rattle.plan_reader.specs.RowStop.{StopComes};
 ghost use Rattle.plan_reader.specs.RowsLeft.{IsReading, rows_left};
+ghost use Rattle.plan_reader.specs.declared.plans.Plan.{Plan};
 
 use crate::columns::Column;
 use crate::field_values::tar_of;
-use crate::hexadecimals::read_octets;
+use crate::hexadecimals::decoded;
 use crate::job_lists::JobsErr;
-use crate::job_table::JobTable;
 use crate::numbers::number;
-use crate::plan_index::PlanIndex;
+use crate::plan_index::{CardListing, PlanIndex};
 use crate::records::{cell, next_record};
 use csv::{ByteRecord, Reader};
 use ota_core::{CardId, Job, JobId, KeysetId, Memory, Octets, Tar};
 use std::alloc::Global;
+use std::collections::HashSet;
 
 const CELLS: usize = 5;
 
-const MOST_JOBS: usize = 100_000;
+/// The greatest number of jobs in a list.
+pub(crate) const MOST_JOBS: usize = 100_000;
 
 const LAST_JOB: u64 = 4_294_967_295;
 
@@ -51,45 +55,50 @@ impl From<Memory> for Stop {
     }
 }
 
-/// Reads the rows that a reader has left, for a plan.
+/// Reads the rows that a reader has left, for a plan, with room for so many jobs from the start.
 pub(crate) fn read_rows(
     alloc: Global,
     reader: &mut Reader<&[u8]>,
     row: &mut ByteRecord,
     plan: &PlanIndex,
-) -> Result<JobTable, JobsErr>
+    room: usize,
+) -> Result<Vec<Job>, JobsErr>
     requires reading { IsReading reader.old }
     ensures right { IfOk result (λ _. first_of_rows plan.now [] (rows_left reader.old) ≡ None) }
-    ensures jobs { IfOk result (λ jobs. jobs ≡ map (job_said plan.now) (rows_left reader.old)) }
-    ensures few { IfOk result (λ jobs. length jobs ≤ 100000) }
+    ensures jobs { IfOk result (λ jobs. jobs.items ≡ map (job_said plan.now) (rows_left reader.old)) }
+    ensures few { IfOk result (λ jobs. length jobs.items ≤ 100000) }
     ensures err { IfErr result (NamesRow (first_of_rows plan.now [] (rows_left reader.old))) }
 {
-    let mut jobs = JobTable::new(alloc);
+    let mut jobs = Vec::with_capacity(alloc, room)?;
+    let mut numbers = HashSet::with_capacity(alloc, room)?;
     let mut place: u32 = 0;
     'rows: loop {
         if !next_record(reader, row)? {
             return Ok(jobs);
         }
         place += 1;
-        match read_row(alloc, row, plan, &jobs) {
-            Ok(job) => jobs = jobs.with_job(job)?,
+        match read_row(alloc, row, plan, jobs.as_slice(), &mut numbers) {
+            Ok(job) => jobs.push(job)?,
             Err(Stop::Wrong(column)) => return Err(JobsErr::Refused(place, column)),
             Err(Stop::Memory) => return Err(JobsErr::Memory),
         }
     }
 }
 
-/// Reads a row, with the jobs of the rows in front of it.
+/// Reads a row, with the jobs of the rows in front of it and their numbers, to which it adds its own.
 #[tactic(auto, unfolding(crate::specs::JobRows::job_said))]
 fn read_row(
     alloc: Global,
     row: &ByteRecord,
     plan: &PlanIndex,
-    before: &JobTable,
+    before: &[Job],
+    numbers: &mut HashSet<u32>,
 ) -> Result<Job, Stop>
+    requires numbers { HasNumbers numbers.old before.now }
     ensures right { IfOk result (λ _. first_wrong (row_checks plan.now before.now (fields_of row.now)) ≡ None) }
     ensures job { IfOk result (λ job. job ≡ job_said plan.now (fields_of row.now)) }
     ensures few { IfOk result (λ _. length before.now < 100000) }
+    ensures numbers { IfOk result (λ job. HasNumbers numbers.new (before.now ++ job ∷ [])) }
     ensures err { IfErr result (StopComes (first_wrong (row_checks plan.now before.now (fields_of row.now)))) }
 {
     if row.len() != CELLS {
@@ -98,11 +107,11 @@ fn read_row(
     if before.len() >= MOST_JOBS {
         return Err(Stop::Wrong(Column::TooMany));
     }
-    let job = new_number(row, before).ok_or(Stop::Wrong(Column::Job))?;
-    let (card, wide) = listed_card(row, plan).ok_or(Stop::Wrong(Column::Card))?;
-    let keyset = listed_keyset(row, card, plan).ok_or(Stop::Wrong(Column::Kvn))?;
+    let job = new_number(row, numbers)?.ok_or(Stop::Wrong(Column::Job))?;
+    let (card, listing) = listed_card(row, plan).ok_or(Stop::Wrong(Column::Card))?;
+    let keyset = listed_keyset(row, card, listing).ok_or(Stop::Wrong(Column::Kvn))?;
     let tar = tar(row).ok_or(Stop::Wrong(Column::Tar))?;
-    let body = script(alloc, row, wide)?.ok_or(Stop::Wrong(Column::Script))?;
+    let body = script(alloc, row, listing.wide)?.ok_or(Stop::Wrong(Column::Script))?;
     Ok(Job {
         id: JobId {
             campaign: plan.campaign(),
@@ -114,16 +123,21 @@ fn read_row(
     })
 }
 
-/// The number of a job, if it is right and none of the jobs in front has it.
-fn new_number(row: &ByteRecord, before: &JobTable) -> Option<u32>
-    ensures wrong { is_none result ≡ is_wrong (λ number. has_job_number number before.now) (job_number_of (fields_of row.now)) }
-    ensures read { IfSome result (λ number. job_number_of (fields_of row.now) ≡ Some number) }
+/// Adds the number of a job to those in front, if it is right and none of these.
+fn new_number(row: &ByteRecord, numbers: &mut HashSet<u32>) -> Result<Option<u32>, Memory>
+    ensures wrong { IfOk result (λ found. is_none found ≡ is_wrong (λ number. contains nat_eq numbers.old number) (job_number_of (fields_of row.now))) }
+    ensures read { IfOk result (λ found. IfSome found (λ number. job_number_of (fields_of row.now) ≡ Some number)) }
+    ensures added { IfOk result (λ found. IfSome found (λ number. (other : ℕ) → contains nat_eq numbers.new other ≡ ((number == other) || contains nat_eq numbers.old other))) }
 {
-    let number = job_number(row)?;
-    if before.has(number) {
-        return None;
+    let number = match job_number(row) {
+        Some(number) => number,
+        None => return Ok(None),
+    };
+    if numbers.insert(number)? {
+        Ok(Some(number))
+    } else {
+        Ok(None)
     }
-    Some(number)
 }
 
 #[tactic(auto, unfolding(crate::specs::JobRows::job_number_of))]
@@ -136,15 +150,16 @@ fn job_number(row: &ByteRecord) -> Option<u32>
     }
 }
 
-/// The card of a row, if it is right and the plan has it, and whether it is wide.
-fn listed_card(row: &ByteRecord, plan: &PlanIndex) -> Option<(u64, bool)>
+/// The card of a row, if it is right and the plan has it, and what the plan lists of it.
+fn listed_card<'a>(row: &ByteRecord, plan: &'a PlanIndex) -> Option<(u64, &'a CardListing)>
     ensures wrong { is_none result ≡ is_wrong (λ number. is_none (card_in plan.now number)) (card_number_of (fields_of row.now)) }
     ensures read { IfSome result (λ card. card_number_of (fields_of row.now) ≡ Some card.0) }
-    ensures wide { IfSome result (λ card. takes_wide plan.now (fields_of row.now) ≡ card.1) }
+    ensures wide { IfSome result (λ card. takes_wide plan.now (fields_of row.now) ≡ card.1.now.wide) }
+    ensures listing { IfSome result (λ card. IsListing plan.now card.0 card.1.now) }
 {
     let card = card_number(row)?;
-    let wide = plan.width(card)?;
-    Some((card, wide))
+    let listing = plan.card(card)?;
+    Some((card, listing))
 }
 
 #[tactic(auto, unfolding(crate::specs::JobRows::card_number_of))]
@@ -154,21 +169,20 @@ fn card_number(row: &ByteRecord) -> Option<u64>
     number(cell(row, 1), 18, LAST_CARD)
 }
 
-/// The keyset of a row on this card, if it is right and the plan has it.
-fn listed_keyset(row: &ByteRecord, card: u64, plan: &PlanIndex) -> Option<KeysetId>
-    ensures wrong { is_none result ≡ is_wrong (λ kvn. not (is_listed plan.now (record { card = record { 0 = card }; kvn = kvn }))) (kvn_in (fields_of row.now)) }
+/// The keyset of a row on this card, if it is right and the plan lists it.
+fn listed_keyset(row: &ByteRecord, card: u64, listing: &CardListing) -> Option<KeysetId>
+    ensures wrong { (plan : Plan) → IsListing plan card listing.now → is_none result ≡ is_wrong (λ kvn. not (is_listed plan (record { card = record { 0 = card }; kvn = kvn }))) (kvn_in (fields_of row.now)) }
     ensures card { IfSome result (λ keyset. keyset.card.0 ≡ card) }
     ensures read { IfSome result (λ keyset. kvn_in (fields_of row.now) ≡ Some keyset.kvn) }
 {
     let kvn = kvn(row)?;
-    let keyset = KeysetId {
-        card: CardId(card),
-        kvn,
-    };
-    if !plan.has(keyset) {
+    if !listing.has(kvn) {
         return None;
     }
-    Some(keyset)
+    Some(KeysetId {
+        card: CardId(card),
+        kvn,
+    })
 }
 
 #[tactic(auto, unfolding(crate::specs::JobRows::kvn_in))]
@@ -195,13 +209,11 @@ fn script(alloc: Global, row: &ByteRecord, wide: bool) -> Result<Option<Octets>,
     ensures read { IfOk result (λ script. IfSome script (λ octets. script_in (fields_of row.now) ≡ Some octets)) }
 {
     let digits = cell(row, 4);
-    let len = digits.len() / 2;
-    if !is_script_length(len, wide) {
+    if !is_script_length(digits.len() / 2, wide) {
         return Ok(None);
     }
-    let mut octets = [0; LONGEST_WIDE_SCRIPT];
-    match read_octets(digits, &mut octets[..len]) {
-        Some(()) => Ok(Some(Octets::from_slice(alloc, &octets[..len])?)),
+    match decoded(alloc, digits)? {
+        Some(octets) => Ok(Some(Octets::from(octets))),
         None => Ok(None),
     }
 }

@@ -6,7 +6,7 @@ ghost use Rattle.plan_reader.specs.KeysetPlaces.{have_own_ids};
 
 use ota_core::{KeyBytes, KeysetFacts, KeysetId, Memory};
 use std::alloc::Global;
-use std::collections::BTreeSet;
+use std::collections::HashSet;
 use std::marker::Model;
 
 /// A keyset that a plan lists.
@@ -22,9 +22,10 @@ pub(crate) struct Listing {
 #[derive(Drop)]
 pub(crate) struct KeysetTable {
     listings: Vec<Listing>,
-    ids: BTreeSet<KeysetId>,
+    /// The number of the card and the key version number of each.
+    ids: HashSet<(u64, u8)>,
     /// The keys for the checksum.
-    kids: BTreeSet<Vec<u8>>,
+    kids: HashSet<Vec<u8>>,
 }
 
 impl Model for KeysetTable {
@@ -45,8 +46,8 @@ impl KeysetTable {
     {
         KeysetTable {
             listings: Vec::new(alloc),
-            ids: BTreeSet::new(alloc),
-            kids: BTreeSet::new(alloc),
+            ids: HashSet::new(alloc),
+            kids: HashSet::new(alloc),
         }
     }
 
@@ -54,7 +55,7 @@ impl KeysetTable {
     pub(crate) fn has(&self, id: KeysetId) -> bool
         ensures { result ≡ lists_keyset id self.now }
     {
-        self.ids.contains(&id)
+        self.ids.contains(&pair_of(id))
     }
 
     /// Whether a keyset has this key for the checksum.
@@ -74,7 +75,7 @@ impl KeysetTable {
             mut ids,
             mut kids,
         } = self;
-        ids.insert(listing.id)?;
+        ids.insert(pair_of(listing.id))?;
         kids.insert(Vec::from_slice(alloc, listing.facts.kid.as_slice())?)?;
         listings.push(listing)?;
         Ok(KeysetTable {
@@ -91,4 +92,11 @@ impl KeysetTable {
     {
         self.listings.as_slice()
     }
+}
+
+/// The number of a keyset's card and its key version number.
+fn pair_of(id: KeysetId) -> (u64, u8)
+    ensures { result ≡ (id.card.0, id.kvn) }
+{
+    (id.card.0, id.kvn)
 }

@@ -13,7 +13,6 @@ mod field_values;
 mod hexadecimals;
 mod job_lists;
 mod job_rows;
-mod job_table;
 #[cfg(test)]
 mod job_tests;
 mod keyset_entries;

@@ -1,29 +1,76 @@
-//! The cards and keysets of a plan, found by their numbers.
+//! The cards of a plan with their keysets, found by their numbers.
 
-ghost use Rattle.std.specs.Prelude.{◌≡◌, ◌||◌, ℕ, IfOk};
-ghost use Rattle.std.specs.List.{list_any};
-ghost use Rattle.std.specs.BTreeMap.{get};
-ghost use Rattle.std.specs.BTreeSet.{contains};
-ghost use Rattle.std.specs.Ordering.{nat_cmp};
-ghost use Rattle.ota_core.specs.Keyset.{Keyset, is_same_keyset};
-ghost use Rattle.plan_reader.specs.Plan.{is_keyset_of};
-ghost use Rattle.plan_reader.specs.KeysetPlaces.{keyset_cmp};
-ghost use Rattle.plan_reader.specs.JobRows.{is_listed};
-ghost use Rattle.plan_reader.specs.PlanPlaces.{width_of};
+ghost use Rattle.std.specs.Prelude.{◌≡◌, ◌<◌, ◌≤◌, ◌||◌, ◌==◌, ℕ, false, [], get_or, option_map, IfOk, IfSome};
+ghost use Rattle.ota_core.specs.KeysetList.{has_kvn};
+ghost use Rattle.plan_reader.specs.PlanPlaces.{width_of, IsIndexOf, IsListing};
 
 use crate::plans::Plan;
 use ota_core::{CardFacts, KeysetFacts, KeysetId, Memory};
 use std::alloc::Global;
-use std::collections::{BTreeMap, BTreeSet};
+use std::collections::HashMap;
 use std::marker::Model;
 
-/// A plan with its cards and keysets in order of their numbers. Contracts see the plan.
+/// What a plan lists of a card.
+#[derive(Clone, Copy)]
+pub(crate) struct CardListing {
+    /// Whether the card is wide.
+    pub(crate) wide: bool,
+    /// Whether the card has a keyset with each key version number, issued or put later.
+    kvns: [bool; 16],
+}
+
+impl CardListing {
+    /// A card without keysets.
+    fn bare(wide: bool) -> CardListing
+        ensures wide { result.wide ≡ wide }
+        ensures kvns { (kvn : ℕ) → get_or result.kvns kvn false ≡ false }
+    {
+        CardListing {
+            wide,
+            kvns: [false; 16],
+        }
+    }
+
+    /// Whether the card has a keyset with this key version number.
+    pub(crate) fn has(&self, kvn: u8) -> bool
+        requires { kvn ≤ 15 }
+        ensures { result ≡ get_or self.now.kvns kvn false }
+    {
+        self.kvns[kvn as usize]
+    }
+
+    /// The listing with one more keyset.
+    fn with_keyset(self, kvn: u8) -> CardListing
+        requires { kvn ≤ 15 }
+        ensures wide { result.wide ≡ self.wide }
+        ensures kvns { (other : ℕ) → get_or result.kvns other false ≡ ((kvn == other) || get_or self.kvns other false) }
+    {
+        let mut kvns = self.kvns;
+        kvns[kvn as usize] = true;
+        CardListing {
+            wide: self.wide,
+            kvns,
+        }
+    }
+
+    /// The listing with the keysets with which a card is issued.
+    fn with_issued(self, card: &CardFacts) -> CardListing
+        ensures wide { result.wide ≡ self.wide }
+        ensures kvns { (kvn : ℕ) → get_or result.kvns kvn false ≡ (get_or self.kvns kvn false || has_kvn kvn card.now.keysets) }
+    {
+        let mut listing = self;
+        for (kvn, _) in card.keysets.as_slice() {
+            listing = listing.with_keyset(*kvn);
+        }
+        listing
+    }
+}
+
+/// A plan with what it lists of each card. Contracts see the plan.
 #[derive(Drop)]
 pub(crate) struct PlanIndex<'a> {
     plan: &'a Plan,
-    /// Whether each card is wide, by its number.
-    wides: BTreeMap<u64, bool>,
-    keysets: BTreeSet<KeysetId>,
+    listings: HashMap<u64, CardListing>,
 }
 
 impl<'a> Model for PlanIndex<'a> {
@@ -34,17 +81,17 @@ impl<'a> Model for PlanIndex<'a> {
 
     ghost view = { λ i. i.plan.now };
 
-    ghost invariant = { λ i. IsIndexOf i.plan.now i.wides i.keysets };
+    ghost invariant = { λ i. IsIndexOf i.plan.now i.listings };
 }
 
 impl<'a> PlanIndex<'a> {
     pub(crate) fn new(alloc: Global, plan: &'a Plan) -> Result<PlanIndex<'a>, Memory>
         ensures { IfOk result (λ index. index ≡ plan.now) }
     {
+        let issued = issued_listings(alloc, plan)?;
         Ok(PlanIndex {
             plan,
-            wides: wides_of(alloc, plan)?,
-            keysets: keysets_of(alloc, plan)?,
+            listings: with_later(issued, plan)?,
         })
     }
 
@@ -55,71 +102,46 @@ impl<'a> PlanIndex<'a> {
         self.plan.campaign
     }
 
-    /// Whether the card with this number is wide, if the plan has it.
-    pub(crate) fn width(&self, card: u64) -> Option<bool>
-        ensures { result ≡ width_of self.now card }
+    /// What the plan lists of the card with this number, if it has the card.
+    pub(crate) fn card(&self, number: u64) -> Option<&CardListing>
+        ensures wide { option_map (λ listing. listing.now.wide) result ≡ width_of self.now number }
+        ensures listing { IfSome result (λ listing. IsListing self.now number listing.now) }
     {
-        match self.wides.get(&card) {
-            Some(wide) => Some(*wide),
-            None => None,
-        }
-    }
-
-    /// Whether the plan has this keyset.
-    pub(crate) fn has(&self, keyset: KeysetId) -> bool
-        ensures { result ≡ is_listed self.now keyset }
-    {
-        self.keysets.contains(&keyset)
+        self.listings.get(&number)
     }
 }
 
-/// Whether each card is wide, by its number; of several with one number the first counts.
-fn wides_of(alloc: Global, plan: &Plan) -> Result<BTreeMap<u64, bool>, Memory>
-    ensures { IfOk result (λ wides. (number : ℕ) → get nat_cmp wides number ≡ width_of plan.now number) }
+/// What a plan lists of its cards but for the keysets that are put later; of several cards with one number the first
+/// says whether it is wide.
+fn issued_listings(alloc: Global, plan: &Plan) -> Result<HashMap<u64, CardListing>, Memory>
+    ensures { IfOk result (λ listings. IsIndexOf (record plan.now { later = [] }) listings) }
 {
-    let mut wides = BTreeMap::new(alloc);
-    for card in plan.cards.as_slice() {
-        if !wides.contains_key(&card.card.0) {
-            wides.insert(card.card.0, card.wide)?;
-        }
+    let cards = plan.cards.as_slice();
+    let mut listings = HashMap::with_capacity(alloc, cards.len())?;
+    for card in cards {
+        let listing = match listings.get(&card.card.0) {
+            Some(listing) => *listing,
+            None => CardListing::bare(card.wide),
+        };
+        listings.insert(card.card.0, listing.with_issued(card))?;
     }
-    Ok(wides)
+    Ok(listings)
 }
 
-fn keysets_of(alloc: Global, plan: &Plan) -> Result<BTreeSet<KeysetId>, Memory>
-    ensures { IfOk result (λ keysets. (keyset : Keyset) → contains keyset_cmp keysets keyset ≡ is_listed plan.now keyset) }
-{
-    let mut keysets = BTreeSet::new(alloc);
-    for card in plan.cards.as_slice() {
-        keysets = with_issued(keysets, card)?;
-    }
-    with_later(keysets, plan.later.as_slice())
-}
-
-/// The set with the keysets with which a card is issued.
-fn with_issued(keysets: BTreeSet<KeysetId>, card: &CardFacts) -> Result<BTreeSet<KeysetId>, Memory>
-    ensures { IfOk result (λ more. (keyset : Keyset) → contains keyset_cmp more keyset ≡ (contains keyset_cmp keysets keyset || is_keyset_of keyset card.now)) }
-{
-    let mut keysets = keysets;
-    for (kvn, _) in card.keysets.as_slice() {
-        keysets.insert(KeysetId {
-            card: card.card,
-            kvn: *kvn,
-        })?;
-    }
-    Ok(keysets)
-}
-
-/// The set with the keysets that are put later.
+/// The listings with the keysets that are put later.
 fn with_later(
-    keysets: BTreeSet<KeysetId>,
-    later: &[(KeysetId, KeysetFacts)],
-) -> Result<BTreeSet<KeysetId>, Memory>
-    ensures { IfOk result (λ more. (keyset : Keyset) → contains keyset_cmp more keyset ≡ (contains keyset_cmp keysets keyset || list_any (λ put. is_same_keyset put.0 keyset) later.now)) }
+    listings: HashMap<u64, CardListing>,
+    plan: &Plan,
+) -> Result<HashMap<u64, CardListing>, Memory>
+    requires { IsIndexOf (record plan.now { later = [] }) listings }
+    ensures { IfOk result (λ listings. IsIndexOf plan.now listings) }
 {
-    let mut keysets = keysets;
-    for (keyset, _) in later {
-        keysets.insert(*keyset)?;
+    let mut listings = listings;
+    for (keyset, _) in plan.later.as_slice() {
+        if let Some(listing) = listings.get(&keyset.card.0) {
+            let more = listing.with_keyset(keyset.kvn);
+            listings.insert(keyset.card.0, more)?;
+        }
     }
-    Ok(keysets)
+    Ok(listings)
 }
