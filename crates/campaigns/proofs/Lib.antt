@@ -3,3 +3,4 @@ pub mod DrillLemmas
 pub mod PieceLemmas
 pub mod PlacingLemmas
 pub mod RemainingLemmas
+pub mod WorkableLemmas

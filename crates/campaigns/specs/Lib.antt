@@ -7,3 +7,4 @@ pub mod DifferenceSteps
 pub mod Growing
 pub mod LiveCounts
 pub mod LiveLaws
+pub mod Workable

@@ -1,0 +1,17 @@
+pub mod BenchLemmas
+pub mod ServingLemmas
+pub mod KnownLemmas
+pub mod RowLemmas
+pub mod HeldLemmas
+pub mod CrossingLemmas
+pub mod RefusalLemmas
+pub mod ClosingLemmas
+pub mod RoundLemmas
+pub mod WorkedLemmas
+pub mod AloneLemmas
+pub mod StepLemmas
+pub mod SeatingLemmas
+pub mod PlaceLemmas
+pub mod LockingLemmas
+pub mod WorkingLemmas
+pub mod TrialLemmas
