@@ -1,4 +1,5 @@
 pub mod Walks
+pub mod CardPlaceLemmas
 pub mod PastLemmas
 pub mod StepLemmas
 pub mod CallLemmas
@@ -21,3 +22,4 @@ pub mod PollLemmas
 pub mod ListedLemmas
 pub mod SiteMeetLemmas
 pub mod AnswerLemmas
+pub mod FileLemmas

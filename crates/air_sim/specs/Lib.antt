@@ -18,3 +18,5 @@ pub mod Handing
 pub mod Acts
 pub mod Stops
 pub mod Polls
+pub mod Files
+pub mod SiteCards

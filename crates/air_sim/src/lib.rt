@@ -9,11 +9,18 @@ mod notes;
 mod parts;
 mod schedules;
 mod sim_site;
+mod site_cards;
+mod store_sites;
 mod traces;
 
 pub use lines::Lines;
 pub use schedules::{Act, Cut, Schedule};
 pub use sim_site::SimSite;
+pub use store_sites::file_sites;
 
 #[cfg(test)]
+mod store_tests;
+#[cfg(test)]
 mod tests;
+#[cfg(test)]
+mod unsynced_files;

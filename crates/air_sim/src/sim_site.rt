@@ -5,12 +5,13 @@ ghost use Rattle.air_sim.specs.CardRuns.{is_answered};
 ghost use Rattle.air_sim.specs.Wants.{unless_want};
 ghost use Rattle.air_sim.specs.Cards.{are_distinct, facts_of};
 
-use crate::deliveries::{Message, meet, message_of};
+use crate::deliveries::{Message, message_of};
 use crate::lines::Lines;
 use crate::made_messages::MadeMessages;
 use crate::notes::{Delivery, Note};
 use crate::parts::Parts;
 use crate::schedules::{Act, Cut, Schedule};
+use crate::site_cards::SiteCards;
 use crate::traces::Trace;
 use arrayvec::ArrayVec;
 use disk_model::{DiskCalls, DiskFault, Image, MemDisk, SimCalls};
@@ -54,7 +55,7 @@ impl<D: DiskCalls> SimSite<D> {
     {
         let parts = Parts {
             journal,
-            cards,
+            cards: SiteCards::new(cards),
             sent: Vec::new(alloc),
             messages: MadeMessages::new(alloc),
         };
@@ -473,13 +474,11 @@ impl<D: SimCalls> SimSite<D> {
     }
 
     /// The place of the card with this number.
-    fn place_of(&self, card: CardId) -> Option<usize>
-        ensures { result ≡ place_in card.0 self.now.parts.cards.items }
+    fn place_of(&mut self, card: CardId) -> Option<usize>
+        ensures place { result ≡ place_in card.0 self.old.parts.cards.items }
+        ensures same { self.new ≡ self.old }
     {
-        self.parts
-            .cards
-            .iter()
-            .position(|one| one.facts().card.0 == card.0)
+        self.parts.cards.place_of(self.alloc, card)
     }
 
     /// Hands a message to the card at this place, and keeps the messages of the answer.
@@ -516,12 +515,10 @@ impl<D: SimCalls> SimSite<D> {
         ensures same { self.new ≡ record self.old { parts = record self.old.parts { cards = self.new.parts.cards }; past = self.new.past } }
     {
         self.past = self.past.and(&self.parts, &Note::Quiet);
-        let answer = meet(
-            self.alloc,
-            &mut self.parts.cards[place],
-            message.as_slice(),
-            cut,
-        );
+        let answer = self
+            .parts
+            .cards
+            .meet(self.alloc, place, message.as_slice(), cut);
         let delivery = Delivery {
             card,
             message,

@@ -18,10 +18,10 @@ const KID: [u8; 16] = [
 ];
 
 /// Two octets of a transparent file are updated, one after the other.
-const UPDATES: &str =
+pub const UPDATES: &str =
     "00381516391212b00010d090f55aa3fd61639721d6919565a84369e608fdb555cf9cdaf499f8eea3deced19d3335aef1f06558947bf5752630c9";
 
-const UPDATES_ANSWER: &str =
+pub const UPDATES_ANSWER: &str =
     "027100002412b0001046bb6a6288fd79e5625808d4f9250c1163a4d4077b1a8579b575ed2f722ba26d";
 
 /// Counter 1, where it is stored.
@@ -85,7 +85,12 @@ fn listed(alloc: Global, acts: &[Act]) -> Result<Schedule, Fail> {
 }
 
 /// Hands a packet of one message to the port.
-fn send<S: SiteCalls>(alloc: Global, site: &mut S, card: u64, packet: &str) -> Result<(), Fail> {
+pub fn send<S: SiteCalls>(
+    alloc: Global,
+    site: &mut S,
+    card: u64,
+    packet: &str,
+) -> Result<(), Fail> {
     let octets = hex::decode(alloc, packet)?;
     match site.send(CardId(card), &octets, Reference::Short(1), 1) {
         Ok(()) => Ok(()),
@@ -94,7 +99,7 @@ fn send<S: SiteCalls>(alloc: Global, site: &mut S, card: u64, packet: &str) -> R
 }
 
 /// What polls give, one after the other, with a blank between two.
-fn polled<S: SiteCalls>(alloc: Global, site: &mut S, count: usize) -> Result<String, Fail> {
+pub fn polled<S: SiteCalls>(alloc: Global, site: &mut S, count: usize) -> Result<String, Fail> {
     let mut text = String::new(alloc);
     for _ in 0..count {
         if !text.is_empty() {

@@ -1,5 +1,4 @@
 use Rattle.std.proofs.Common.{◌∙◌, refl, subst, sym}
-use Rattle.std.specs.Vec.{with_item}
 use Rattle.air_sim.specs.CardRuns.{AreLogged, reply_in}
 use Rattle.air_sim.specs.Meeting.{Meets}
 use Rattle.air_sim.proofs.SiteMeetLemmas.{answered_by, site_meets, site_works}
@@ -8,21 +7,19 @@ use Rattle.air_sim.proofs.sim_site.SimSite.meet.Goals as goal
 pub returns-clause-works : goal.returns-clause-works
 returns-clause-works g c =
     let told = g.D.DiskCalls.told in
-    let one = c.index_mut.result.now in
-    let after = c.meet-answer.new.card in
-    site_works told g.D.DiskCalls.counts c.args.self.now _ c.args.card c.args.place c.requires.there one after c.index_mut.ensures.value refl c.meet-answer.ensures.facts
-    (record { card = c.args.card; message = c.args.message; answered = c.has_messages.result }) c.and-self.result.items c.and-self.ensures c.and-self-2.ensures refl refl refl c.meet-answer.ensures.tells c.meet-answer.ensures.grows
+    let it = c.meet-answer.ensures in
+    site_works told g.D.DiskCalls.counts c.args.self.now _ c.args.card c.args.place c.requires.there it.card it.after it.is it.stands it.facts
+    (record { card = c.args.card; message = c.args.message; answered = c.has_messages.result }) c.and-self.result.items c.and-self.ensures c.and-self-2.ensures refl refl refl it.tells it.grows
     (λ tells answered.
-    subst (λ octets. AreLogged told one after octets) c.as_slice.ensures.value
-    (answered_by c.meet-answer.result (sym c.has_messages.ensures ∙ answered) (c.meet-answer.ensures.logged tells)))
+    subst (λ octets. AreLogged told it.card it.after octets) c.as_slice.ensures.value
+    (answered_by c.meet-answer.result (sym c.has_messages.ensures ∙ answered) (it.logged tells)))
 
 pub returns-clause-meets : goal.returns-clause-meets
 returns-clause-meets g c =
     let told = g.D.DiskCalls.told in
     let counts = g.D.DiskCalls.counts in
-    let one = c.index_mut.result.now in
-    let after = c.meet-answer.new.card in
+    let it = c.meet-answer.ensures in
     site_meets told counts c.args.self.now
-    (record c.args.self.now { parts = record c.args.self.now.parts { cards = with_item c.args.self.now.parts.cards c.args.place after } }) c.args.card c.args.place c.requires.there one after c.index_mut.ensures.value refl c.meet-answer.ensures.facts
+    (record c.args.self.now { parts = record c.args.self.now.parts { cards = c.meet-answer.new.self } }) c.args.card c.args.place c.requires.there it.card it.after it.is it.stands it.facts
     c.args.message.items c.args.cut (reply_in c.meet-answer.result)
-    (subst (λ octets. Meets told counts one after octets c.args.cut (reply_in c.meet-answer.result)) c.as_slice.ensures.value c.meet-answer.ensures.meets)
+    (subst (λ octets. Meets told counts it.card it.after octets c.args.cut (reply_in c.meet-answer.result)) c.as_slice.ensures.value it.meets)
